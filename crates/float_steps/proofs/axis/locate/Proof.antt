@@ -1,0 +1,52 @@
+-- `axis::locate` meets its contract: the floor of a coordinate held up to the last index is at most that index, which an f32 holds exactly.
+-- Assumes nothing.
+use mathlib.Core.Path.{sym, subst}
+use Prim.Native.Nat.{ℕ, _^_, _≤_}
+use native.Mathlib.Omega.{arith}
+use lib.Ieee.{Float}
+use borrow.Author.Needs.{needs}
+use Rattle.float_steps.specs.Axis.{axisAt, axisOf}
+use Rattle.float_steps.specs.Whole.{floorOf}
+use Rattle.float_steps.proofs.AxisInside.{floor-held, in-float}
+use Rattle.float_steps.proofs.axis.locate.Statement.{statement}
+use Rattle.float_steps.proofs.axis.locate.Tie as tie
+
+last-of-requires : tie.Need-last-of-requires
+last-of-requires c κs = search needs
+
+int-to-float-held : tie.Need-int-to-float-held
+int-to-float-held c = in-float (c .before .last-of .result) (omega (arith, c .before .last-of .ensures))
+
+held-requires : tie.Need-held-requires
+held-requires c κs = search needs
+
+floor-requires : tie.Need-floor-requires
+floor-requires c κs = search needs
+
+after-requires : tie.Need-after-requires
+after-requires c κs = search needs
+
+int-to-float-t7 : tie.Need-int-to-float-t7
+int-to-float-t7 c =
+    let last = c .before .before .before .before .before .last-of in
+    let low : last .result ≤ 2 ^ 24 = omega (arith, last .ensures) in
+    let within : floorOf (c .before .before .before .held .result) ≤ last .result =
+    subst (λ (v : Float). floorOf v ≤ last .result) (sym (c .before .before .before .held .ensures)) (floor-held (c .before .before .before .before .before .before .args .x) (last .result) low) in
+    in-float (c .before .before .floor .result) (omega (arith, c .before .before .floor .ensures))
+
+returns : tie.Need-returns
+unfolding axisOf axisAt
+returns c =
+    rw (← c .before .before .before .before .before .last-of .ensures, ← c .before .before .before .held .ensures, ← c .before .before .floor .ensures, ← c .before .after .ensures)
+
+pub locate-spec : {M : Type 1} → statement M
+locate-spec =
+    tie.close
+    (tie.spec
+    last-of-requires
+    int-to-float-held
+    held-requires
+    floor-requires
+    after-requires
+    int-to-float-t7
+    returns)

@@ -1,0 +1,54 @@
+use native.Mathlib.Omega.{arith}
+use Rattle.float_steps.proofs.NearestRoot.{radicand-hi, root-small, mantissa-word}
+use borrow.Author.Needs.{needs}
+use Rattle.float_steps.proofs.root.root_of_mantissa.Statement.{statement}
+use Rattle.float_steps.proofs.root.root_of_mantissa.Tie as tie
+
+mul-radicand : tie.Need-mul-radicand
+mul-radicand c = search needs
+
+add-radicand : tie.Need-add-radicand
+add-radicand c = search needs
+
+cast-radicand : tie.Need-cast-radicand
+cast-radicand c = search needs
+
+mul-radicand-2 : tie.Need-mul-radicand-2
+mul-radicand-2 c = omega (arith, radicand-hi (c .args .m) (c .args .scale) (c .pre .0) (c .pre .1))
+
+whole-root-requires : tie.Need-whole-root-requires
+whole-root-requires c κs = search needs
+
+sub-result : tie.Need-sub-result
+sub-result c = search needs
+
+mul-result : tie.Need-mul-result
+mul-result c = search needs
+
+add-result : tie.Need-add-result
+add-result c = omega (arith, root-small (c .before .args .m) (c .before .args .scale) (c .before .pre .0) (c .before .pre .1) (c .whole-root .result) (c .whole-root .ensures))
+
+cast-result : tie.Need-cast-result
+cast-result c = omega (arith, root-small (c .before .args .m) (c .before .args .scale) (c .before .pre .0) (c .before .pre .1) (c .whole-root .result) (c .whole-root .ensures))
+
+add-result-2 : tie.Need-add-result-2
+add-result-2 c = omega (arith, root-small (c .before .args .m) (c .before .args .scale) (c .before .pre .0) (c .before .pre .1) (c .whole-root .result) (c .whole-root .ensures))
+
+returns : tie.Need-returns
+returns c = mantissa-word (c .before .args .m) (c .before .args .scale) (c .before .pre .0) (c .before .pre .1) (c .before .pre .2) (c .before .pre .3) (c .whole-root .result) (c .whole-root .ensures)
+
+pub root-of-mantissa-spec : {M : Type 1} → statement M
+root-of-mantissa-spec =
+    tie.close
+    (tie.spec
+    mul-radicand
+    add-radicand
+    cast-radicand
+    mul-radicand-2
+    whole-root-requires
+    sub-result
+    mul-result
+    add-result
+    cast-result
+    add-result-2
+    returns)

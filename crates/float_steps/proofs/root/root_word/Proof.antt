@@ -1,0 +1,47 @@
+use mathlib.Core.Path.{sym, _∙_}
+use native.Mathlib.Omega.{arith}
+use Rattle.float_steps.proofs.Radicand.{here, asked, given, sqrt-normal}
+use borrow.Author.Needs.{needs}
+use Rattle.float_steps.proofs.root.root_word.Statement.{statement}
+use Rattle.float_steps.proofs.root.root_word.Tie as tie
+
+sub-zeros : tie.Need-sub-zeros
+sub-zeros c = here (c .before .args .w) (c .before .pre .0) (c .if1 .taken) .eight
+
+shl-root-of-mantissa : tie.Need-shl-root-of-mantissa
+shl-root-of-mantissa c = omega (arith, here (c .before .args .w) (c .before .pre .0) (c .if1 .taken) .few)
+
+sub-root-of-mantissa : tie.Need-sub-root-of-mantissa
+sub-root-of-mantissa c = omega (arith, here (c .before .args .w) (c .before .pre .0) (c .if1 .taken) .few)
+
+root-of-mantissa-requires : tie.Need-root-of-mantissa-requires
+root-of-mantissa-requires c κs = asked (c .before .args .w) (c .before .pre .0) (c .if1 .taken)
+
+returns : tie.Need-returns
+returns c = given (c .before .before .args .w) (c .before .before .pre .0) (c .before .if1 .taken) (c .root-of-mantissa .result) (c .root-of-mantissa .ensures)
+
+add-root-of-mantissa : tie.Need-add-root-of-mantissa
+add-root-of-mantissa c = search needs
+
+add-root-of-mantissa-2 : tie.Need-add-root-of-mantissa-2
+add-root-of-mantissa-2 c = search needs
+
+root-of-mantissa-requires-2 : tie.Need-root-of-mantissa-requires-2
+root-of-mantissa-requires-2 c κs = search needs
+
+returns-2 : tie.Need-returns-2
+returns-2 c = c .root-of-mantissa2 .ensures ∙ sym (sqrt-normal (c .before .before .args .w) (omega arith) (omega arith))
+
+pub root-word-spec : {M : Type 1} → statement M
+root-word-spec =
+    tie.close
+    (tie.spec
+    sub-zeros
+    shl-root-of-mantissa
+    sub-root-of-mantissa
+    root-of-mantissa-requires
+    returns
+    add-root-of-mantissa
+    add-root-of-mantissa-2
+    root-of-mantissa-requires-2
+    returns-2)

@@ -1,0 +1,25 @@
+-- One coordinate of bilinear sampling: lines 247 to 262 of deep.rs, `bilinear_into`, which do the same for x and for y.
+use Prim.Native.Nat.{ℕ, _+_, _-_, min}
+use mathlib.Core.Bool.{cond}
+use lib.IntN.{pos}
+use lib.Ieee.{Float, binary32, isNan, ofInt}
+use Rattle.float_steps.specs.Notation.{_⊖_, f0}
+use Rattle.float_steps.specs.Order.{clampOf}
+use Rattle.float_steps.specs.Whole.{floorOf}
+use Rattle.float_steps.specs.declared.axis.Axis.{Axis}
+
+-- a NaN counts as 0, and any other coordinate is clamped to 0 and hi
+unfoldable pub heldOf : Float → Float → Float
+heldOf x hi = cond (isNan x) f0 (clampOf x f0 hi)
+
+-- The last index of a side. A side of 0, which never gets here, is taken as 1; and one past 2 ^ 24, up to which each whole number is an f32, as 2 ^ 24 + 1.
+abbrev pub lastOf : ℕ → ℕ
+lastOf side = min (side - 1) 0x100_0000
+
+-- the pixel at or before the coordinate v, the one after it, and how far v is along
+unfoldable pub axisAt : Float → ℕ → Axis
+axisAt v last = record { at = floorOf v; next = min (floorOf v + 1) last; along = v ⊖ ofInt binary32 (pos (floorOf v)) }
+
+unfoldable pub axisOf : Float → ℕ → Axis
+unfolding axisAt
+axisOf x side = axisAt (heldOf x (ofInt binary32 (pos (lastOf side)))) (lastOf side)
