@@ -1,0 +1,3 @@
+pub mod Operators
+pub mod Numbers
+pub mod Conventions
