@@ -1,0 +1,2 @@
+pub mod Widen
+pub mod Bilinear

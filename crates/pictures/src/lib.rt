@@ -1,0 +1,20 @@
+// Pictures as deep.rs has them, on lent words: one pixel widened to RGBA, the picture read between its pixels, and narrowing.
+// A picture is a list of words (binary32 patterns), row by row, `channels` of them a pixel. The definitions are in specs/.
+pub mod bilinear; // bilinear.rt: `bilinear_into`
+pub mod widen; // widen.rt: `to_rgba` of one pixel
+
+// The four words of a pixel.
+pub struct Words {
+    pub r: u32,
+    pub g: u32,
+    pub b: u32,
+    pub a: u32,
+}
+
+// The four values of a pixel, straight alpha.
+pub struct Rgba {
+    pub r: f32,
+    pub g: f32,
+    pub b: f32,
+    pub a: f32,
+}

@@ -1,0 +1,3 @@
+pub mod Blend
+pub mod Channel
+pub mod Pixel
