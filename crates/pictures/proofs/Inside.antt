@@ -31,12 +31,12 @@ words-inside c j n a =
 pub in-picture : (picture : List ℕ) (c w h : ℕ) (x y : Float) (a b : Axis) → 1 ≤ c → c ≤ 4 → 1 ≤ w → 1 ≤ h → length picture ≡ w * h * c → a ≡ axisOf x w → b ≡ axisOf y h → InPicture picture c w h a b
 in-picture picture c w h x y a b some most i j whole p q =
     rw (p, q)
-    record
-      { some = some
-      ; most = most
-      ; left = axis-inside x w i .0
-      ; right = axis-inside x w i .1
-      ; upper = axis-inside y h j .0
-      ; lower = axis-inside y h j .1
-      ; whole = whole
-      }
+    record {
+      some = some;
+      most = most;
+      left = axis-inside x w i .0;
+      right = axis-inside x w i .1;
+      upper = axis-inside y h j .0;
+      lower = axis-inside y h j .1;
+      whole = whole;
+    }

@@ -4,10 +4,11 @@ ghost use Prim.Native.Nat.{_+_, _*_, _≤_, _<_};
 ghost use lib.ListN.{length};
 ghost use Rattle.pictures.specs.Widen.{rgbaAt, valuesOf};
 ghost use Rattle.pictures.specs.Bilinear.{channelsOf, neighboursOf, mixedOf, mixOf, bilinearOf, InPicture};
-
 use crate::Rgba;
-use crate::widen::{rgba_at, values};
-use float_steps::axis::{Axis, locate};
+use crate::widen::rgba_at;
+use crate::widen::values;
+use float_steps::axis::Axis;
+use float_steps::axis::locate;
 
 // The four values of the pixel in column x of row y.
 fn channels_at(picture: &[u32], channels: usize, w: usize, h: usize, x: usize, y: usize) -> [f32; 4]
@@ -19,7 +20,14 @@ fn channels_at(picture: &[u32], channels: usize, w: usize, h: usize, x: usize, y
 }
 
 // The four neighbours, row by row.
-pub fn neighbours(picture: &[u32], channels: usize, w: usize, h: usize, x: Axis, y: Axis) -> [[f32; 4]; 4]
+pub fn neighbours(
+    picture: &[u32],
+    channels: usize,
+    w: usize,
+    h: usize,
+    x: Axis,
+    y: Axis,
+) -> [[f32; 4]; 4]
     requires { ⌜ InPicture (now picture) channels w h x y ⌝ }
     ensures { λ r. ⌜ r ≡ neighboursOf (λ j. valuesOf (rgbaAt (now (picture .entry)) channels j)) w x y ⌝ }
 {
@@ -40,7 +48,10 @@ fn mixed(p: [[f32; 4]; 4], c: usize, fx: f32, fy: f32) -> f32
     requires { ⌜ c < 4 ⌝ }
     ensures { λ r. ⌜ r ≡ mixedOf p c fx fy ⌝ }
 {
-    p[0][c] * (1.0 - fx) * (1.0 - fy) + p[1][c] * fx * (1.0 - fy) + p[2][c] * (1.0 - fx) * fy + p[3][c] * fx * fy
+    p[0][c] * (1.0 - fx) * (1.0 - fy)
+        + p[1][c] * fx * (1.0 - fy)
+        + p[2][c] * (1.0 - fx) * fy
+        + p[3][c] * fx * fy
 }
 
 pub fn mix(p: [[f32; 4]; 4], fx: f32, fy: f32) -> Rgba

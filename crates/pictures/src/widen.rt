@@ -3,7 +3,6 @@ ghost use mathlib.Core.Path.{_≡_};
 ghost use Prim.Native.Nat.{_+_, _*_, _≤_, _<_};
 ghost use lib.ListN.{length};
 ghost use Rattle.pictures.specs.Widen.{fourAt, threeAt, oneAt, rgbaAt, valuesOf};
-
 use crate::Rgba;
 use crate::Words;
 use float_steps::words::value;

@@ -29,7 +29,7 @@ pub struct Painted {
     pub pixel: Rgba,
 }
 
-fn painted(op: CompositeOp, p: Params, s: Rgba, d: Rgba) -> Painted
+fn paint(op: CompositeOp, p: Params, s: Rgba, d: Rgba) -> Painted
     ensures { λ r. ⌜ (Is operators (r .number) op) × (r .pixel ≡ pixelAt (r .number) p s d) ⌝ }
 {
     match op {
@@ -325,6 +325,6 @@ fn painted(op: CompositeOp, p: Params, s: Rgba, d: Rgba) -> Painted
 pub fn pixel(op: CompositeOp, p: Params, s: Rgba, d: Rgba) -> Rgba
     ensures { λ r. ⌜ r ≡ pixelOf op p s d ⌝ }
 {
-    let r = painted(op, p, s, d);
+    let r = paint(op, p, s, d);
     r.pixel
 }

@@ -16,7 +16,6 @@ use blends::Rgb;
 use blends::blend;
 use float_steps::order;
 use float_steps::remainder;
-use float_steps::sign;
 use pictures::Rgba;
 
 pub fn multiply(s: Rgba, d: Rgba) -> Rgba
@@ -80,9 +79,9 @@ pub fn difference(s: Rgba, d: Rgba) -> Rgba
     ensures { λ r. ⌜ r ≡ mathematicalOf O.Difference unused s d ⌝ }
 {
     let b = Rgb {
-        r: sign::abs(s.r - d.r),
-        g: sign::abs(s.g - d.g),
-        b: sign::abs(s.b - d.b),
+        r: blend::difference(s.r, d.r),
+        g: blend::difference(s.g, d.g),
+        b: blend::difference(s.b, d.b),
     };
     premult(b, s, d)
 }
@@ -183,7 +182,6 @@ pub fn modulus_add(s: Rgba, d: Rgba) -> Rgba
     ensures { λ r. ⌜ r ≡ mathematicalBy O.ModulusAdd unused s d (wrapOf (s .a ⊕ d .a)) ⌝ }
 {
     let x = weighed(s);
-    let y = weighed(d);
     let b = Rgb {
         r: x.r,
         g: x.g,
@@ -197,7 +195,6 @@ pub fn modulus_subtract(s: Rgba, d: Rgba) -> Rgba
     ensures { λ r. ⌜ r ≡ mathematicalBy O.ModulusSubtract unused s d (wrapOf (s .a ⊖ d .a)) ⌝ }
 {
     let x = weighed(s);
-    let y = weighed(d);
     let b = Rgb {
         r: x.r,
         g: x.g,
@@ -213,9 +210,9 @@ pub fn exclusion(s: Rgba, d: Rgba) -> Rgba
     let x = weighed(s);
     let y = weighed(d);
     let b = Rgb {
-        r: x.r + y.r - 2.0 * x.r * y.r,
-        g: x.g + y.g - 2.0 * x.g * y.g,
-        b: x.b + y.b - 2.0 * x.b * y.b,
+        r: blend::exclusion(x.r, y.r),
+        g: blend::exclusion(x.g, y.g),
+        b: blend::exclusion(x.b, y.b),
     };
     premult_only(b, over_alpha(s.a, d.a))
 }
@@ -358,9 +355,9 @@ pub fn negate(s: Rgba, d: Rgba) -> Rgba
     let x = weighed(s);
     let y = weighed(d);
     let b = Rgb {
-        r: 1.0 - sign::abs(1.0 - x.r - y.r),
-        g: 1.0 - sign::abs(1.0 - x.g - y.g),
-        b: 1.0 - sign::abs(1.0 - x.b - y.b),
+        r: blend::negate(x.r, y.r),
+        g: blend::negate(x.g, y.g),
+        b: blend::negate(x.b, y.b),
     };
     premult_only(b, over_alpha(s.a, d.a))
 }

@@ -1,0 +1,16 @@
+-- `pixels::colours::coloured` meets its contract. Assumes nothing.
+use borrow.Author.Needs.{needs}
+use Rattle.pixels.proofs.colours.coloured.Statement.{statement}
+use Rattle.pixels.proofs.colours.coloured.Tie as tie
+
+hsl-to-rgb-requires : tie.Need-hsl-to-rgb-requires
+hsl-to-rgb-requires c κs = search needs
+
+coloured-by-requires : tie.Need-coloured-by-requires
+coloured-by-requires c κs = search needs
+
+returns : tie.Need-returns
+returns c = rw (c .coloured-by .ensures, c .before .hsl-to-rgb .ensures)
+
+pub coloured-spec : {M : Type 1} → statement M
+coloured-spec = tie.close (tie.spec hsl-to-rgb-requires coloured-by-requires returns)

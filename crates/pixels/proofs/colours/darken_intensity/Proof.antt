@@ -1,0 +1,24 @@
+-- `pixels::colours::darken_intensity` meets its contract. Assumes nothing.
+use Rattle.float_steps.proofs.Choice.{yes, no}
+use Rattle.pixels.specs.Pixel.{darkenIntensityOf}
+use borrow.Author.Needs.{needs}
+use Rattle.pixels.proofs.colours.darken_intensity.Statement.{statement}
+use Rattle.pixels.proofs.colours.darken_intensity.Tie as tie
+
+intensity-requires : tie.Need-intensity-requires
+intensity-requires c κs = search needs
+
+intensity-requires-2 : tie.Need-intensity-requires-2
+intensity-requires-2 c κs = search needs
+
+returns : tie.Need-returns
+unfolding darkenIntensityOf
+returns c = rw (← c .before .before .before .before .intensity .ensures, ← c .before .before .intensity2 .ensures) (yes _ _ (c .if1 .taken))
+
+returns-2 : tie.Need-returns-2
+unfolding darkenIntensityOf
+returns-2 c = rw (← c .before .before .before .before .intensity .ensures, ← c .before .before .intensity2 .ensures) (no _ _ (c .if1 .left))
+
+pub darken-intensity-spec : {M : Type 1} → statement M
+darken-intensity-spec =
+    tie.close (tie.spec intensity-requires intensity-requires-2 returns returns-2)

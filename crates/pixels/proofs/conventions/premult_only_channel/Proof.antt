@@ -1,0 +1,16 @@
+-- `pixels::conventions::premult_only_channel` meets its contract. Assumes nothing.
+use borrow.Author.Needs.{needs}
+use Rattle.pixels.proofs.conventions.premult_only_channel.Statement.{statement}
+use Rattle.pixels.proofs.conventions.premult_only_channel.Tie as tie
+
+unit-requires : tie.Need-unit-requires
+unit-requires c κs = search needs
+
+unit-requires-2 : tie.Need-unit-requires-2
+unit-requires-2 c κs = search needs
+
+returns : tie.Need-returns
+returns c = rw (c .unit2 .ensures, c .before .unit .ensures)
+
+pub premult-only-channel-spec : {M : Type 1} → statement M
+premult-only-channel-spec = tie.close (tie.spec unit-requires unit-requires-2 returns)

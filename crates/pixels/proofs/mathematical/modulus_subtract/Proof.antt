@@ -1,0 +1,21 @@
+-- `pixels::mathematical::modulus_subtract` meets its contract. Assumes nothing.
+use borrow.Author.Needs.{needs}
+use Rattle.pixels.proofs.mathematical.modulus_subtract.Statement.{statement}
+use Rattle.pixels.proofs.mathematical.modulus_subtract.Tie as tie
+
+weighed-requires : tie.Need-weighed-requires
+weighed-requires c κs = search needs
+
+wrap-requires : tie.Need-wrap-requires
+wrap-requires c κs = search needs
+
+premult-only-requires : tie.Need-premult-only-requires
+premult-only-requires c κs = search needs
+
+returns : tie.Need-returns
+returns c = rw (c .premult-only .ensures, c .before .wrap .ensures, c .before .before .before .before .weighed .ensures)
+
+pub modulus-subtract-spec : {M : Type 1} → statement M
+modulus-subtract-spec =
+    tie.close
+    (tie.spec weighed-requires wrap-requires premult-only-requires returns)
