@@ -1,7 +1,7 @@
 -- Both pixels of `axisOf` lie on the side. Assumes nothing.
 use mathlib.Core.Path.{_≡_, refl, sym, ap, subst, _∙_}
 use mathlib.Core.Bool.{Bool, true, false, not, cond, true≢false}
-use Prim.Native.Nat.{ℕ, suc, _+_, _-_, _*_, _/_, _^_, _<_, _≤_, min}
+use Prim.Native.Nat.{ℕ, suc, _*_, _/_, _^_, _<_, _≤_, min}
 use native.Mathlib.Nat.{mul-one, le-trans, le-of-eq, lt-of-le-of-lt, div-lt-iff-lt-mul, mul-right-comm, le-of-mul-le-mul-right, suc-mul}
 use native.Mathlib.Omega.{arith}
 use lib.IntN.{pos}

@@ -1,6 +1,6 @@
 -- A value is finite exactly when it lies strictly between the infinities. Assumes nothing.
 use mathlib.Core.Path.{_≡_, refl, sym}
-use mathlib.Core.Bool.{Bool, true, false, true≢false}
+use mathlib.Core.Bool.{true, false, true≢false}
 use lib.Ieee.{Float, nan, inf, fin, lt}
 use Rattle.float_steps.specs.Order.{finiteOf}
 

@@ -2,10 +2,10 @@
 use mathlib.Core.Path.{_≡_, refl, sym, ap, subst, _∙_}
 use mathlib.Core.Bool.{Bool, true, false, not, _&&_}
 use Prim.Native.Nat.{ℕ, _*_, _%_, _<_, _≤_}
-use lib.Dec.{T, eqb}
+use lib.Dec.{T}
 use lib.Ieee.{Float, nan, inf, fin, binary32, nanBits, ofBits, toBits, isNan, up, down, div, ne}
 use lib.Ieee.Bits.{nanBits-is, nanBits-above}
-use lib.Ieee.Compare.{differs-from-itself, nan-differs}
+use lib.Ieee.Compare.{differs-from-itself}
 use borrow.Author.Tests.{le-ltb, lt-ltb, eq-eqb}
 use Rattle.float_steps.proofs.Choice.{told}
 

@@ -1,21 +1,17 @@
 -- `nearestRoot`: how it rounds, in plain words, and how the code works it out from the whole root of a radicand of 49 or 50 digits. Assumes nothing.
 use mathlib.Core.Path.{_≡_, refl, sym, ap, subst, _∙_}
-use mathlib.Core.Logic.{inl, inr}
-use mathlib.Core.Bool.{Bool, true, false, not, cond, true≢false}
+use mathlib.Core.Bool.{false, not}
 use Prim.Native.Nat.{ℕ, zero, suc, _+_, _-_, _*_, _/_, _%_, _^_, _<_, _≤_, compare, Ordering, Ordering·lt, Ordering·eq, Ordering·gt}
-use native.Mathlib.Nat.{le-refl, le-trans, le-of-eq, le-of-lt, lt-of-lt-of-le, lt-of-le-of-lt, lt-of-not-le, not-le-of-lt, mul-one, one-mul, add-mul, mul-pos, mul-le-mul, mul-le-mul-left, mul-le-mul-right, mul-lt-mul-of-pos-right, mul-comm, mul-assoc, mul-left-comm, mul-right-comm, mul-div-cancel, mul-div-mul-right, mul-mod-right, eq-of-mul-eq-mul-right, le-of-mul-le-mul-right}
+use native.Mathlib.Nat.{le-trans, le-of-eq, le-of-lt, lt-of-lt-of-le, lt-of-le-of-lt, lt-of-not-le, not-le-of-lt, one-mul, add-mul, mul-pos, mul-le-mul, mul-le-mul-right, mul-lt-mul-of-pos-right, mul-comm, mul-assoc, mul-left-comm, mul-div-mul-right, mul-mod-right, eq-of-mul-eq-mul-right, le-of-mul-le-mul-right}
 use native.Mathlib.Omega.{arith}
 use lib.Arith.{lt-of-le-ne}
-use lib.Dec.{T, leb, ltb, eqb, isLe, isEq, leb→le, nleb→lt, eqb→eq, eqb-refl, ltb→lt, lt→ltb, lit<, lit≤}
-use lib.Pow.{pow-add, pow-pos, pow-mono}
-use lib.Ieee.{Float, nan, inf, fin, binary32, up, down, size, nearest, units, odd, ofBits, toBits, fits}
-use lib.Ieee.Digits.{size-lt, size-le, size-reaches}
-use lib.Ieee.Fits.{down-pos, odd-fits}
-use lib.Ieee.Bits.{ofBits-toBits, is-true}
-use lib.Ieee.Exact.{HasValue, units-val}
-use Rattle.float_steps.specs.Root.{rootOf, nearestRoot}
+use lib.Dec.{T, eqb, isLe, isEq, leb→le, nleb→lt, eqb→eq, eqb-refl, lit<, lit≤}
+use lib.Pow.{pow-add, pow-pos}
+use lib.Ieee.{binary32, size, nearest, units, ofBits}
+use lib.Ieee.Digits.{size-le}
+use Rattle.float_steps.specs.Root.{nearestRoot}
 use Rattle.float_steps.proofs.Patterns.{size-gt, word-units}
-use Rattle.float_steps.proofs.WholeRoot.{IsRoot, sq-mono, sq-less, sq-unique, square-twice, rootOf-is}
+use Rattle.float_steps.proofs.WholeRoot.{IsRoot, sq-mono, sq-less, square-twice, root-exactly}
 
 -- ---- what `compare` says
 abbrev Cmp : Ordering → ℕ → ℕ → Type 0
@@ -30,6 +26,44 @@ cmp a b = go (compare a b) (leb→le a b) (nleb→lt a b) (eqb→eq a b) (λ (e 
     go Ordering·lt h k e n = lt-of-le-ne (h tt) n
     go Ordering·eq h k e n = e tt
     go Ordering·gt h k e n = k tt
+
+-- only one of the three holds
+same : (o p : Ordering) (a b : ℕ) → Cmp o a b → Cmp p a b → o ≡ p
+same Ordering·lt Ordering·lt a b c d = refl
+same Ordering·lt Ordering·eq a b c d = absurd (omega arith)
+same Ordering·lt Ordering·gt a b c d = absurd (omega arith)
+same Ordering·eq Ordering·lt a b c d = absurd (omega arith)
+same Ordering·eq Ordering·eq a b c d = refl
+same Ordering·eq Ordering·gt a b c d = absurd (omega arith)
+same Ordering·gt Ordering·lt a b c d = absurd (omega arith)
+same Ordering·gt Ordering·eq a b c d = absurd (omega arith)
+same Ordering·gt Ordering·gt a b c d = refl
+
+-- ---- How `nearestRoot` rounds, in plain words. The root of n has 24 digits that are kept, the whole number q, and k that are dropped: q * 2 ^ k is at most
+-- the root, (q + 1) * 2 ^ k is above it, and h = (2 * q + 1) * 2 ^ k is twice the number half way between. Where 4 * n is below the square of h the result is
+-- q, where it is above q + 1, and where it equals it the even one of the two; each times 2 ^ k smallest values of the format.
+abbrev pub droppedOf : ℕ → ℕ
+droppedOf n = (size n + 1) / 2 - 24
+
+module _ (n q : ℕ) (whole : IsRoot q (n / (2 ^ droppedOf n * 2 ^ droppedOf n))) where
+  abbrev halfway : ℕ
+  halfway = (2 * q + 1) * (2 * q + 1) * (2 ^ droppedOf n * 2 ^ droppedOf n)
+
+  rounded : nearestRoot n ≡ units binary32 false (nearest q (compare (4 * n) halfway)) (droppedOf n)
+  unfolding nearestRoot
+  rounded = rw (root-exactly q (n / (2 ^ droppedOf n * 2 ^ droppedOf n)) .1 whole)
+
+  compared : (o : Ordering) → Cmp o (4 * n) halfway → compare (4 * n) halfway ≡ o
+  compared o c = same (compare (4 * n) halfway) o (4 * n) halfway (cmp (4 * n) halfway) c
+
+  pub below-halfway : 4 * n < halfway → nearestRoot n ≡ units binary32 false q (droppedOf n)
+  below-halfway h = rounded ∙ rw (compared Ordering·lt h)
+
+  pub at-halfway : 4 * n ≡ halfway → nearestRoot n ≡ units binary32 false (q + q % 2) (droppedOf n)
+  at-halfway h = rounded ∙ rw (compared Ordering·eq h)
+
+  pub above-halfway : halfway < 4 * n → nearestRoot n ≡ units binary32 false (suc q) (droppedOf n)
+  above-halfway h = rounded ∙ rw (compared Ordering·gt h)
 
 -- ---- the root of n = R * 4 ^ h, for an even R of 49 or 50 digits, from the whole root r of R
 module _ (R r h : ℕ) (even : R % 2 ≡ 0) (lo : 2 ^ 48 ≤ R) (hi : R ≤ 0x3_ffff_fc00_0000) (few : h ≤ 199) (is : IsRoot r R) where
@@ -65,7 +99,7 @@ module _ (R r h : ℕ) (even : R % 2 ≡ 0) (lo : 2 ^ 48 ≤ R) (hi : R ≤ 0x3_
   n-lo : 2 ^ (48 + (h + h)) ≤ n
   n-lo = le-trans (le-of-eq (pow-add 2 48 (h + h) ∙ ap (λ (z : ℕ). 2 ^ 48 * z) (sym u-is))) (mul-le-mul-right u lo)
 
-  dropped : (size n + 1) / 2 - 24 ≡ h + 1
+  dropped : droppedOf n ≡ h + 1
   dropped = half (size n) (size-le n (50 + (h + h)) n-hi) (size-gt n (48 + (h + h)) n-lo)
     where
       half : (z : ℕ) → z ≤ 50 + (h + h) → 48 + (h + h) < z → (z + 1) / 2 - 24 ≡ h + 1
@@ -95,9 +129,6 @@ module _ (R r h : ℕ) (even : R % 2 ≡ 0) (lo : 2 ^ 48 ≤ R) (hi : R ≤ 0x3_
 
       four-lt : (z : ℕ) → R < 4 * z → R / 4 < z
       four-lt z g = omega arith
-
-  root-q : rootOf (R / 4) ≡ q
-  root-q = sq-unique (rootOf (R / 4)) q (R / 4) (rootOf-is (R / 4)) half-root
 
   -- the comparison with the square half way, less the factor 4 * u
   abbrev mid : ℕ
@@ -132,19 +163,10 @@ module _ (R r h : ℕ) (even : R % 2 ≡ 0) (lo : 2 ^ 48 ≤ R) (hi : R ≤ 0x3_
       up-half : (z : ℕ) → 2 * (z / 2) + 1 < z + 1 → suc (z / 2) ≡ (z + 1) / 2
       up-half z g = omega arith
 
-  -- `nearestRoot`, with what it drops and the whole root as variables
-  abbrev made : ℕ → ℕ → Float
-  made k p = units binary32 false (nearest p (compare (4 * n) ((2 * p + 1) * (2 * p + 1) * (2 ^ k * 2 ^ k)))) k
-
-  opened : nearestRoot n ≡ made ((size n + 1) / 2 - 24) (rootOf (n / (2 ^ ((size n + 1) / 2 - 24) * 2 ^ ((size n + 1) / 2 - 24))))
-  unfolding nearestRoot
-  opened = refl
-
   nearest-is : nearestRoot n ≡ units binary32 false ((r + 1) / 2) (h + 1)
   nearest-is =
-      opened
-      ∙ ap (λ (k : ℕ). made k (rootOf (n / (2 ^ k * 2 ^ k)))) dropped
-      ∙ ap (λ (p : ℕ). made (h + 1) p) (ap rootOf quarter ∙ root-q)
+      rounded n q (subst (λ (z : ℕ). IsRoot q z) (sym (ap (λ (k : ℕ). n / (2 ^ k * 2 ^ k)) dropped ∙ quarter)) half-root)
+      ∙ ap (λ (k : ℕ). units binary32 false (nearest q (compare (4 * n) (mid * (2 ^ k * 2 ^ k)))) k) dropped
       ∙ ap (λ (z : ℕ). units binary32 false (nearest q (compare (4 * n) (mid * z))) (h + 1)) u4
       ∙ ap (λ (z : ℕ). units binary32 false z (h + 1)) (picked (compare (4 * n) (mid * (4 * u))) (cmp (4 * n) (mid * (4 * u))))
 

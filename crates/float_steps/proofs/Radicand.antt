@@ -1,22 +1,22 @@
 -- `sqrtOf` of the value of a word, as the root of a mantissa and a power of two, and where the code makes no root. Assumes nothing.
 use mathlib.Core.Path.{_≡_, refl, sym, ap, subst, _∙_}
-use mathlib.Core.Logic.{_⊎_, inl, inr}
-use mathlib.Core.Bool.{Bool, true, false, not, cond, _&&_, _||_, Bool·beq, true≢false}
+use mathlib.Core.Logic.{inl, inr}
+use mathlib.Core.Bool.{Bool, true, false, cond, _&&_, _||_, Bool·beq, true≢false}
 use Prim.Native.Nat.{ℕ, zero, suc, _+_, _-_, _*_, _/_, _%_, _^_, _<_, _≤_}
-use native.Mathlib.Nat.{le-trans, le-of-eq, le-of-lt, lt-of-lt-of-le, lt-of-le-of-lt, lt-of-not-le, not-le-of-lt, mod-eq-of-lt, mul-one, zero-mul, mul-pos, mul-assoc, mul-comm, mul-right-comm, mul-le-mul-right, mul-lt-mul-of-pos-right, mul-div-cancel, eq-zero-or-pos}
+use native.Mathlib.Nat.{le-trans, le-of-eq, lt-of-lt-of-le, lt-of-le-of-lt, lt-of-not-le, not-le-of-lt, mod-eq-of-lt, mul-one, zero-mul, mul-pos, mul-assoc, mul-right-comm, mul-le-mul-right, mul-lt-mul-of-pos-right, mul-div-cancel, eq-zero-or-pos}
 use native.Mathlib.Omega.{arith}
 use lib.Arith.{lt-of-le-ne}
 use lib.IntN.{ℤ, pos}
-use lib.Dec.{T, leb, ltb, eqb, leb→le, le→leb, eqb→eq, not-T, lit<, lit≤}
-use lib.Pow.{pow-add, pow-pos, pow-mono, pow-lt}
+use lib.Dec.{T, leb, eqb, le→leb, eqb→eq, lit≤}
+use lib.Pow.{pow-add, pow-pos, pow-mono}
 use lib.Count.{leadingZeros, leading-top}
 use lib.Ieee.{Float, nan, inf, fin, binary32, up, down, odd, ofFields, ofBits, toBits, fits, lt, eq}
 use lib.Ieee.Fits.{up-pos, down-pos, and-l}
-use lib.Ieee.Bits.{ofBits-toBits, toBits-lt, is-true, is-false, cond-no}
-use lib.Ieee.Exact.{HasValue, odd-sign}
-use borrow.Author.Tests.{eqb-true, eqb-false, ne-eqb, eq-eqb, ltb-true, ltb-false}
+use lib.Ieee.Bits.{ofBits-toBits, is-true}
+use lib.Ieee.Exact.{HasValue}
+use borrow.Author.Tests.{ne-eqb, eq-eqb, ltb-false}
 use Rattle.float_steps.specs.Root.{nearestRoot, sqrtOf}
-use Rattle.float_steps.proofs.Choice.{never, told}
+use Rattle.float_steps.proofs.Choice.{never}
 use Rattle.float_steps.proofs.Nan.{nan-word}
 use Rattle.float_steps.proofs.Patterns.{ofBits-is, small-value, normal-value}
 

@@ -1,19 +1,19 @@
 -- `floorOf` and `roundByteOf`, as the code works them out. Assumes nothing.
 use mathlib.Core.Path.{_≡_, refl, sym, ap, subst, _∙_}
 use mathlib.Core.Logic.{_⊎_, inl, inr}
-use mathlib.Core.Bool.{Bool, true, false, not, cond, _&&_, _||_, true≢false}
+use mathlib.Core.Bool.{Bool, true, false, _&&_, _||_, true≢false}
 use Prim.Native.Nat.{ℕ, zero, suc, _+_, _-_, _*_, _/_, _%_, _^_, _<_, _≤_, min}
-use native.Mathlib.Nat.{mul-one, zero-mul, one-mul, le-trans, le-of-eq, le-of-lt, lt-of-lt-of-le, lt-of-le-of-lt, le-div-iff-mul-le, div-lt-iff-lt-mul, mul-pos, mul-comm, mul-assoc, mul-left-comm, mul-right-comm, div-div-eq-div-mul, mul-le-mul-right, mul-le-mul-left, lt-of-not-le, not-le-of-lt, add-mul-div-right}
+use native.Mathlib.Nat.{mul-one, zero-mul, le-trans, le-of-eq, le-of-lt, lt-of-lt-of-le, lt-of-le-of-lt, le-div-iff-mul-le, div-lt-iff-lt-mul, mul-pos, mul-comm, mul-assoc, div-div-eq-div-mul, mul-le-mul-right, mul-le-mul-left, lt-of-not-le, not-le-of-lt, add-mul-div-right}
 use native.Mathlib.Omega.{arith}
 use lib.IntN.{ℤ, pos, negsuc}
-use lib.Dec.{T, ltb, leb, eqb, ltb→lt, leb→le, eqb→eq, lit<, lit≤}
+use lib.Dec.{T, ltb, leb, eqb, ltb→lt, leb→le, eqb→eq, lit<}
 use lib.Pow.{pow-add, pow-pos, pow-mono}
-use lib.Ieee.{Float, nan, inf, fin, binary32, ofBits, toBits, up, down, round, mul, lt, le, eq, fits, toUnsigned}
-use lib.Ieee.Fits.{up-pos, down-pos, and-l, and-r}
+use lib.Ieee.{Float, nan, inf, fin, binary32, up, down, round, mul, lt, le, fits, toUnsigned}
+use lib.Ieee.Fits.{down-pos, and-l, and-r}
 use lib.Ieee.Exact.{HasValue, round-exact}
 use lib.Ieee.Nearest.{div-same}
-use lib.Ieee.Positive.{num, den, positive, den-pos, own-value, value→cross, mul-at, le→cross, cross→le}
-use borrow.Author.Tests.{ltb-true, ltb-false, leb-true, leb-false, le-ltb, lt-ltb}
+use lib.Ieee.Positive.{num, den, positive, den-pos, mul-at, cross→le}
+use borrow.Author.Tests.{ltb-true, ltb-false, lt-ltb}
 use Rattle.float_steps.specs.Whole.{floorOf, roundByteOf}
 use Rattle.float_steps.proofs.Choice.{never}
 

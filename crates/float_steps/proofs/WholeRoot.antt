@@ -1,12 +1,10 @@
 -- Whole-number square roots: r is `rootOf n` exactly when r * r ≤ n < (r + 1) * (r + 1). Assumes nothing.
-use mathlib.Core.Path.{_≡_, refl, sym, ap, subst, _∙_}
-use mathlib.Core.Logic.{inl, inr}
+use mathlib.Core.Path.{_≡_, sym, ap, subst, _∙_}
 use mathlib.Core.Bool.{Bool, true, false, not, cond}
-use Prim.Native.Nat.{ℕ, zero, suc, _+_, _-_, _*_, _/_, _%_, _^_, _<_, _≤_}
-use native.Mathlib.Nat.{le-refl, le-trans, le-of-eq, le-of-lt, le-antisymm, lt-of-lt-of-le, lt-of-le-of-lt, lt-of-not-le, not-le-of-lt, mul-le-mul, mul-le-mul-left, mul-comm, mul-assoc, mul-left-comm, add-mul, mul-add, add-assoc, add-comm, add-left-comm, le-div-iff-mul-le, div-lt-iff-lt-mul, div-mul-le-self, pow-succ'}
+use Prim.Native.Nat.{ℕ, zero, suc, _+_, _*_, _/_, _^_, _<_, _≤_}
+use native.Mathlib.Nat.{le-trans, le-of-eq, le-antisymm, lt-of-lt-of-le, lt-of-le-of-lt, lt-of-not-le, not-le-of-lt, mul-le-mul, mul-assoc, mul-left-comm, pow-succ'}
 use native.Mathlib.Omega.{arith}
 use lib.Dec.{T, leb, leb→le, nleb→lt}
-use lib.Pow.{pow-add, pow-pos}
 use lib.Ieee.{size}
 use lib.Ieee.Digits.{size-lt}
 use Rattle.float_steps.specs.Root.{grown, rootBy, rootOf}
@@ -30,7 +28,7 @@ sq-unique a b n p q = le-antisymm (up-to a b (sq-less a (b + 1) (lt-of-le-of-lt 
 
 -- ---- the squares of twice a number, and of one and two more than that
 pub square-twice : (s : ℕ) → 2 * s * (2 * s) ≡ 4 * (s * s)
-square-twice s = simp (mul-assoc, mul-comm, mul-left-comm) (sym (mul-assoc 2 2 (s * s)))
+square-twice s = simp (mul-assoc, mul-left-comm) (sym (mul-assoc 2 2 (s * s)))
 
 square-next : (s : ℕ) → (2 * s + 1 + 1) * (2 * s + 1 + 1) ≡ 4 * ((s + 1) * (s + 1))
 square-next s = ap (λ (z : ℕ). z * z) (twice s) ∙ square-twice (s + 1)
@@ -69,3 +67,7 @@ rootBy-is (suc d) n h = step n (rootBy d (n / 4)) (rootBy-is d (n / 4) (quarter 
 pub rootOf-is : (n : ℕ) → IsRoot (rootOf n) n
 unfolding rootOf
 rootOf-is n = rootBy-is (size n) n (size-lt n)
+
+-- in plain words: r is the whole root of n exactly when r * r ≤ n < (r + 1) * (r + 1)
+pub root-exactly : (r n : ℕ) → (rootOf n ≡ r → IsRoot r n) × (IsRoot r n → rootOf n ≡ r)
+root-exactly r n = (λ (e : rootOf n ≡ r). subst (λ (x : ℕ). IsRoot x n) e (rootOf-is n), λ (p : IsRoot r n). sq-unique (rootOf n) r n (rootOf-is n) p)

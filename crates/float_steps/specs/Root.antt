@@ -1,7 +1,7 @@
 -- Document 01, "Float steps": the square root is the nearest f32, ties to even; of a negative or NaN, NaN; of a zero or plus infinity, itself.
 -- Its meaning is a comparison of whole-number squares: `WholeRoot` and `NearestRoot` of proofs/ say in plain words what `rootOf` and `nearestRoot` are.
 use Prim.Native.Nat.{ℕ, zero, suc, _+_, _-_, _*_, _/_, _^_, compare}
-use mathlib.Core.Bool.{Bool, true, false, cond}
+use mathlib.Core.Bool.{false, cond}
 use lib.Dec.{leb, eqb}
 use lib.Ieee.{Float, nan, inf, fin, binary32, up, down, size, nearest, units}
 

@@ -1,7 +1,7 @@
 -- `axis::locate` meets its contract: the floor of a coordinate held up to the last index is at most that index, which an f32 holds exactly.
 -- Assumes nothing.
 use mathlib.Core.Path.{sym, subst}
-use Prim.Native.Nat.{ℕ, _^_, _≤_}
+use Prim.Native.Nat.{_^_, _≤_}
 use native.Mathlib.Omega.{arith}
 use lib.Ieee.{Float}
 use borrow.Author.Needs.{needs}

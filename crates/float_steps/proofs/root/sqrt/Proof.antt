@@ -1,4 +1,4 @@
-use mathlib.Core.Path.{_≡_, sym, subst, ap, _∙_}
+use mathlib.Core.Path.{sym, subst, ap, _∙_}
 use Prim.Native.Nat.{ℕ, _<_}
 use Rattle.float_steps.proofs.Choice.{told}
 use lib.Ieee.{ofBits, binary32}
