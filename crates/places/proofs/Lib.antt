@@ -1,0 +1,4 @@
+pub mod Anchors
+pub mod Numbers
+pub mod Signed
+pub mod Spots

@@ -1,0 +1,155 @@
+-- The source's coordinates: what a test tells of them, and their bounds. Assumes nothing.
+use mathlib.Core.Path.{_≡_, refl, sym, ap, _∙_}
+use mathlib.Core.Bool.{Bool, true, false, cond, _&&_}
+use Prim.Native.Nat.{ℕ, zero, suc, _+_, _-_, _*_, _/_, _%_, _<_, _≤_}
+use native.Mathlib.Omega.{arith}
+use native.Mathlib.Nat.{mod-lt, div-add-mod', mul-le-mul, suc-mul, mul-comm, le-refl}
+use lib.Dec.{ltb}
+use lib.IntN.{ℤ, pos, negsuc, natAbs, _+ℤ_, _-ℤ_, _*ℤ_}
+use lib.Signed.{mag, ltZ, shrZ}
+use borrow.Author.Tests.{ltb-true, lt-ltb, le-ltb}
+use Rattle.places.specs.declared.Corner.{Corner}
+use Rattle.places.specs.declared.Spot.{Spot}
+use Rattle.places.specs.declared.Spot.the-variants.{At, Off}
+use Rattle.places.specs.Bounds.{Under}
+use Rattle.places.specs.Spots.{remEuclid, insideOf, spotOf, tiles, indexOf, sourceIndex}
+
+-- ---- what the code's tests tell
+
+pub rem-negative : (z : ℤ) (m : ℕ) → ltZ z (pos 0) ≡ true → m - 1 - mag z % m ≡ remEuclid z m
+rem-negative (pos n) m e = let h : n < 0 = ltb-true n 0 e in absurd (omega arith)
+rem-negative (negsuc n) m e = refl
+
+pub rem-positive : (z : ℤ) (m : ℕ) → ltZ z (pos 0) ≡ false → natAbs z % m ≡ remEuclid z m
+rem-positive (pos n) m e = refl
+rem-positive (negsuc n) m e = let x : _≡_ {A = ℕ} 0 1 = cc in absurd (omega arith)
+
+pub off-negative : (side : ℕ) (z : ℤ) → ltZ z (pos 0) ≡ true → Off ≡ insideOf side z
+off-negative side (pos n) e = let h : n < 0 = ltb-true n 0 e in absurd (omega arith)
+off-negative side (negsuc n) e = refl
+
+pub at-inside : (side : ℕ) (z : ℤ) → ltZ z (pos 0) ≡ false → natAbs z < side → At (natAbs z) ≡ insideOf side z
+at-inside side (pos n) e h = rw (lt-ltb n side h)
+at-inside side (negsuc n) e h = let x : _≡_ {A = ℕ} 0 1 = cc in absurd (omega arith)
+
+pub off-past : (side : ℕ) (z : ℤ) → ltZ z (pos 0) ≡ false → side ≤ natAbs z → Off ≡ insideOf side z
+off-past side (pos n) e h = rw (le-ltb n side h)
+off-past side (negsuc n) e h = refl
+
+pub spot-empty : (tile : Bool) (z : ℤ) → Off ≡ spotOf tile 0 z
+unfolding spotOf
+spot-empty true (pos n) = rw (le-ltb n 0 (omega arith))
+spot-empty true (negsuc n) = refl
+spot-empty false (pos n) = rw (le-ltb n 0 (omega arith))
+spot-empty false (negsuc n) = refl
+
+pub spot-tiled : (side : ℕ) (z : ℤ) → (side ≡ 0 → ⊥) → At (remEuclid z side) ≡ spotOf true side z
+unfolding spotOf
+spot-tiled side z h = rw (lt-ltb 0 side (omega arith))
+
+pub spot-untiled : (side : ℕ) (z : ℤ) → insideOf side z ≡ spotOf false side z
+unfolding spotOf
+spot-untiled side z = refl
+
+pub no-column : (tile : Bool) (sh : ℕ) → false ≡ tiles tile 0 sh
+no-column true sh = refl
+no-column false sh = refl
+
+stuck : (b : Bool) → false ≡ (b && false)
+stuck true = refl
+stuck false = refl
+
+pub no-row : (tile : Bool) (sw : ℕ) → false ≡ tiles tile sw 0
+no-row true sw = stuck (ltb 0 sw)
+no-row false sw = refl
+
+pub some-pixels : (tile : Bool) (sw sh : ℕ) → (sw ≡ 0 → ⊥) → (sh ≡ 0 → ⊥) → tile ≡ tiles tile sw sh
+some-pixels true sw sh h k = rw (lt-ltb 0 sw (omega arith), lt-ltb 0 sh (omega arith))
+some-pixels false sw sh h k = refl
+
+-- ---- the remainder is Euclid's: with the quotient rounded down it makes up the number
+
+quotient : (n m : ℕ) → 0 < m → suc (n / m) * m ≡ suc (n + (m - 1 - n % m))
+quotient n m h = omega (arith, suc-mul (n / m) m, div-add-mod' n m, mod-lt n {m = m} h)
+
+pub euclid : (z : ℤ) (m : ℕ) → 0 < m → shrZ z m *ℤ pos m +ℤ pos (remEuclid z m) ≡ z
+euclid (pos n) m h = ap pos (div-add-mod' n m)
+euclid (negsuc n) m h =
+    rw (quotient n m h, lt-ltb (m - 1 - n % m) (suc (n + (m - 1 - n % m))) (omega arith)) (ap negsuc (omega arith))
+
+-- ---- bounds
+
+picked : (t : Bool) (n m : ℕ) → cond t (At n) Off ≡ At m → (t ≡ true) × (n ≡ m)
+picked true n m e = (refl, cc)
+picked false n m e = let x : _≡_ {A = ℕ} 0 1 = cc in absurd (omega arith)
+
+rem-below : (z : ℤ) (m : ℕ) → 0 < m → remEuclid z m < m
+rem-below (pos n) m h = mod-lt n {m = m} h
+rem-below (negsuc n) m h = omega (arith, mod-lt n {m = m} h)
+
+inside-below : (side : ℕ) (z : ℤ) (n : ℕ) → insideOf side z ≡ At n → n < side
+inside-below side (pos k) n e =
+    let p = picked (ltb k side) k n e in
+    let b : k < side = ltb-true k side (p .0) in
+    omega (arith, p .1)
+inside-below side (negsuc k) n e = let x : _≡_ {A = ℕ} 0 1 = cc in absurd (omega arith)
+
+spot-by : (t : Bool) (side : ℕ) (z : ℤ) (n : ℕ) → ltb 0 side ≡ t → cond t (At (remEuclid z side)) (insideOf side z) ≡ At n → n < side
+spot-by true side z n h e =
+    let m : remEuclid z side ≡ n = cc in
+    omega (arith, m, rem-below z side (ltb-true 0 side h))
+spot-by false side z n h e = inside-below side z n e
+
+-- a coordinate of the source is below its side
+pub spot-below : (tile : Bool) (side : ℕ) (z : ℤ) (n : ℕ) → spotOf tile side z ≡ At n → n < side
+unfolding spotOf
+spot-below true side z n e = spot-by (ltb 0 side) side z n refl e
+spot-below false side z n e = inside-below side z n e
+
+under : (n m : ℕ) (s : Spot) → m ≤ n → ((i : ℕ) → s ≡ At i → i < m) → Under n s
+under n m (At i) h b = omega (arith, b i refl)
+under n m Off h b = tt
+
+-- the same, where a call's answer is that coordinate
+pub spot-under : (n : ℕ) {s : Spot} (tile : Bool) (side : ℕ) (z : ℤ) → s ≡ spotOf tile side z → side ≤ n → Under n s
+spot-under n {s} tile side z e h = under n side s h (λ i k. spot-below tile side z i (sym e ∙ k))
+
+-- what was asked with equal arguments
+pub spot-as : {s : Spot} {t u : Bool} (side x : ℕ) {y z : ℤ} → s ≡ spotOf t side (pos x -ℤ y) → t ≡ u → y ≡ z → s ≡ spotOf u side (pos x -ℤ z)
+spot-as side x e p q = rw (← p, ← q) e
+
+-- an index lies on the row and the column that it is made of
+pub record OnSource (tile : Bool) (sw sh : ℕ) (corner : Corner) (x y n : ℕ) : Type 0 where
+  pub column : ℕ
+  pub row : ℕ
+  pub column-at : spotOf (tiles tile sw sh) sw (pos x -ℤ corner .x) ≡ At column
+  pub row-at : spotOf (tiles tile sw sh) sh (pos y -ℤ corner .y) ≡ At row
+  pub column-below : column < sw
+  pub row-below : row < sh
+  pub index : row * sw + column ≡ n
+
+module _ (tile : Bool) (sw sh : ℕ) (corner : Corner) (x y n : ℕ) where
+  by-spots : (a b : Spot) → spotOf (tiles tile sw sh) sw (pos x -ℤ corner .x) ≡ a → spotOf (tiles tile sw sh) sh (pos y -ℤ corner .y) ≡ b → indexOf sw a b ≡ At n → OnSource tile sw sh corner x y n
+  by-spots (At i) (At j) p q e = record {
+    column = i;
+    row = j;
+    column-at = p;
+    row-at = q;
+    column-below = spot-below (tiles tile sw sh) sw (pos x -ℤ corner .x) i p;
+    row-below = spot-below (tiles tile sw sh) sh (pos y -ℤ corner .y) j q;
+    index = cc;
+  }
+  by-spots (At i) Off p q e = let z : _≡_ {A = ℕ} 0 1 = cc in absurd (omega arith)
+  by-spots Off b p q e = let z : _≡_ {A = ℕ} 0 1 = cc in absurd (omega arith)
+
+  pub on-source : sourceIndex tile sw sh corner x y ≡ At n → OnSource tile sw sh corner x y n
+  unfolding sourceIndex
+  on-source e = by-spots _ _ refl refl e
+
+  -- an index is below the number of the source's pixels
+  pub index-below : sourceIndex tile sw sh corner x y ≡ At n → n < sw * sh
+  index-below e =
+      let o = on-source e in
+      let up : suc (o .row) * sw ≤ sh * sw = mul-le-mul (o .row-below) (le-refl sw) in
+      let z : n ≡ o .row * sw + o .column = sym (o .index) in
+      rw mul-comm (rw z (omega (arith, up, suc-mul (o .row) sw, o .column-below)))

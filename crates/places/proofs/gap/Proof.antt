@@ -1,0 +1,29 @@
+-- `places::gap` meets its contract: sides within the slack are exact as i64. Assumes nothing.
+use Prim.Native.Nat.{_≤_}
+use native.Mathlib.Omega.{arith}
+use borrow.Author.Needs.{needs}
+use lib.IntN.{pos}
+use mir.Syntax.{w64}
+use mir.Facts.{toZ-pos}
+use Rattle.places.proofs.Signed.{sfits, back, mag-sub}
+use Rattle.places.proofs.gap.Statement.{statement}
+use Rattle.places.proofs.gap.Tie as tie
+
+cast-result : tie.Need-cast-result
+cast-result c = search needs
+
+cast-result-2 : tie.Need-cast-result-2
+cast-result-2 c = search needs
+
+sub-result : tie.Need-sub-result
+sub-result c =
+    rw (toZ-pos w64 {n = c .args .dst} (omega arith), toZ-pos w64 {n = c .args .src} (omega arith))
+    (sfits (omega (arith, mag-sub (pos (c .args .dst)) (pos (c .args .src)))))
+
+returns : tie.Need-returns
+returns c =
+    rw (toZ-pos w64 {n = c .args .dst} (omega arith), toZ-pos w64 {n = c .args .src} (omega arith))
+    (back (omega (arith, mag-sub (pos (c .args .dst)) (pos (c .args .src)))))
+
+pub gap-spec : {M : Type 1} → statement M
+gap-spec = tie.close (tie.spec cast-result cast-result-2 sub-result returns)

@@ -1,0 +1,4 @@
+pub mod Bounds
+pub mod Gravities
+pub mod Placement
+pub mod Spots
