@@ -9,7 +9,7 @@ use Rattle.float_steps.specs.Axis.{axisOf}
 use Rattle.float_steps.specs.declared.axis.Axis.{Axis}
 use Rattle.float_steps.proofs.AxisInside.{axis-inside}
 use Rattle.pictures.specs.Bilinear.{InPicture}
-use native.Mathlib.Nat.{mul-le-mul-left, mul-le-mul-right, mul-one, suc-mul, mul-comm}
+use native.Mathlib.Nat.{mul-le-mul-left, mul-le-mul-right, mul-one, one-mul, suc-mul, mul-comm}
 
 -- column x of row y, in a picture of w by h pixels
 pub pixel-inside : (w h x y : ℕ) → x < w → y < h → y * w + x < w * h
@@ -40,3 +40,11 @@ in-picture picture c w h x y a b some most i j whole p q =
       lower = axis-inside y h j .1;
       whole = whole;
     }
+
+-- a pixel before the end of a run, c words a pixel
+pub words-within : (c j n : ℕ) → j < n → c * j + c ≤ c * n
+words-within c j n a = rw (mul-comm c n) (words-inside c j n a)
+
+-- a run of pixels is no longer than its words
+pub pixels-words : (c n : ℕ) → 1 ≤ c → n ≤ c * n
+pixels-words c n a = omega (arith, mul-le-mul-right n a, one-mul n)

@@ -1,6 +1,7 @@
 // Pictures as deep.rs has them, on lent words: one pixel widened to RGBA, the picture read between its pixels, and narrowing.
 // A picture is a list of words (binary32 patterns), row by row, `channels` of them a pixel. The definitions are in specs/.
 pub mod bilinear; // bilinear.rt: `bilinear_into`
+pub mod flat; // flat.rt: pixels written into a list of words
 pub mod widen; // widen.rt: `to_rgba` of one pixel
 
 // The four words of a pixel.
