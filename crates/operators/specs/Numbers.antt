@@ -17,6 +17,7 @@ use Rattle.operators.specs.declared.table.Listed.the-variants.{At, Past}
 abbrev pub count : ℕ
 count = 70
 
+-- what a number names: an operator that is carried, none, or one of the two that are not carried
 abbrev pub opOf : ℤ → Numbered
 opOf (pos n) =
     cond (ltb n count)

@@ -1,0 +1,75 @@
+-- What a place in the list of names says. Assumes nothing.
+use mathlib.Core.Path.{_≡_, refl, sym, ap, _∙_}
+use mathlib.Core.Bool.{Bool, true, false, cond}
+use mathlib.Core.List.{List, [], _∷_, map}
+use Prim.Native.Nat.{ℕ, zero, suc, _+_, _-_, _<_, _≤_}
+use native.Mathlib.Nat.{add-zero, add-suc, suc-add, zero-add}
+use native.Mathlib.Omega.{arith}
+use lib.ListN.{length, getD, take, drop}
+use lib.Seq.{getD-take, getD-drop}
+use Rattle.operators.specs.Operators.{numberOf}
+use Rattle.operators.specs.Numbers.{count}
+use Rattle.names.specs.Names.{Entry, entries, words, numbers, same, lookup}
+use Rattle.names.specs.Packed.{placeFrom}
+use Rattle.names.specs.declared.Named.{Named}
+use Rattle.names.specs.declared.Named.the-variants.{Operator, Unknown}
+use Rattle.names.specs.declared.Place.{Place}
+use Rattle.names.specs.declared.Place.the-variants.{At, Nowhere}
+
+abbrev numbersOf : List Entry → List ℕ
+numbersOf es = map (λ (e : Entry). numberOf (e .op)) es
+
+-- what is known where the search answered a place
+abbrev pub atPlace : Place → Named
+atPlace (At k) = Operator (getD numbers k 0)
+atPlace Nowhere = Unknown
+
+chosen : (b : Bool) (i m : ℕ) (p : Place) (r : Named) → getD numbers i 0 ≡ m → atPlace p ≡ r → atPlace (cond b (At i) p) ≡ cond b (Operator m) r
+chosen true i m p r e q = ap Operator e
+chosen false i m p r e q = q
+
+by-place : (x : List ℕ) (es : List Entry) (i : ℕ) → ((j : ℕ) → getD numbers (i + j) 0 ≡ getD (numbersOf es) j 0) → atPlace (placeFrom i x (words es)) ≡ lookup x es
+by-place x [] i h = refl
+by-place x (e ∷ es) i h =
+    chosen (same x (e .word)) i (numberOf (e .op)) (placeFrom (suc i) x (words es)) (lookup x es)
+    (rw add-zero at (h 0))
+    (by-place x es (suc i) (λ j. rw (suc-add, ← add-suc) (h (suc j))))
+
+-- the search through the words is the search through the entries
+pub place-known : (x : List ℕ) → atPlace (placeFrom 0 x (words entries)) ≡ lookup x entries
+unfolding numbers
+place-known x = by-place x entries 0 (λ j. rw zero-add)
+
+-- a place that the search answered lies in the list
+chosen-below : (b : Bool) (i k n : ℕ) (p : Place) → i < n → (p ≡ At k → k < n) → cond b (At i) p ≡ At k → k < n
+chosen-below true i k n p h g e = let q : i ≡ k = cc in omega arith
+chosen-below false i k n p h g e = g e
+
+pub place-below : (x : List ℕ) (ws : List (List ℕ)) (i k : ℕ) → placeFrom i x ws ≡ At k → k < i + length ws
+place-below x [] i k e = let z : _≡_ {A = ℕ} 0 1 = cc in absurd (omega arith)
+place-below x (w ∷ ws) i k e =
+    chosen-below (same x w) i k (i + suc (length ws)) (placeFrom (suc i) x ws) (omega arith)
+    (λ q. omega (arith, place-below x ws (suc i) k q))
+    e
+
+pub numbers-count : length numbers ≡ 83
+unfolding numbers entries
+numbers-count = refl
+
+-- the first numbers, those of the 70 names, are their own places
+abbrev up : ℕ → ℕ → List ℕ
+up i zero = []
+up i (suc n) = i ∷ up (suc i) n
+
+up-at : (i n k : ℕ) → k < n → getD (up i n) k 0 ≡ i + k
+up-at i zero k h = absurd (omega arith)
+up-at i (suc n) zero h = sym (add-zero i)
+up-at i (suc n) (suc k) h = up-at (suc i) n k (omega arith) ∙ rw (suc-add, ← add-suc)
+
+pub own-number : (k : ℕ) → k < count → k ≡ getD numbers k 0
+unfolding numbers entries
+own-number k h = sym (sym (getD-take count numbers k 0 h) ∙ up-at 0 count k h ∙ zero-add k)
+
+-- the numbers of the aliases follow
+pub alias-number : (k : ℕ) → count ≤ k → getD (drop count numbers) (k - count) 0 ≡ getD numbers k 0
+alias-number k h = let e : count + (k - count) ≡ k = omega arith in rw (getD-drop, e)

@@ -1,0 +1,4 @@
+pub mod Reading
+pub mod Packing
+pub mod Known
+pub mod Distinct

@@ -1,0 +1,54 @@
+-- `names::from_name` meets its contract: cut at the lengths, the bytes are the words of the list, so that the place that the search
+-- answers is that of the entry. Assumes nothing.
+use mathlib.Core.Path.{_≡_, sym, ap, _∙_}
+use borrow.Author.Needs.{needs}
+use Rattle.names.specs.Names.{entries, words, numbers, keyOf, fromName}
+use Rattle.names.specs.Packed.{placeFrom}
+use Rattle.names.specs.declared.Named.the-variants.{Operator}
+use Rattle.names.proofs.Known.{atPlace, place-known, place-below}
+use Rattle.names.proofs.from_name.Statement.{statement}
+use Rattle.names.proofs.from_name.Tie as tie
+
+-- what the search answered
+answered : (c : tie.After-find) → c .find .result ≡ placeFrom 0 (keyOf (c .before .before .before .before .before .before .args .s .now)) (words entries)
+unfolding entries
+answered c = c .find .ensures
+
+-- .. and what it says
+known : (c : tie.After-find) → atPlace (c .find .result) ≡ fromName (c .before .before .before .before .before .before .args .s .now)
+unfolding fromName
+known c = ap atPlace (answered c) ∙ place-known (keyOf (c .before .before .before .before .before .before .args .s .now))
+
+find-requires : tie.Need-find-requires
+find-requires c κs = search needs
+
+enum-known-k : tie.Need-enum-known-k
+enum-known-k c = search needs
+
+number-at-requires : tie.Need-number-at-requires
+unfolding entries numbers
+number-at-requires c κs =
+    let a = c .before .before .before in
+    place-below (keyOf (a .before .before .before .before .before .before .args .s .now)) (words entries) 0 _ (sym (answered a) ∙ c .before .k .given .1)
+
+enum-told : tie.Need-enum-told
+enum-told c = search needs
+
+returns : tie.Need-returns
+returns c =
+    let a = c .before .before .before .before in
+    ap Operator (c .number-at .ensures) ∙ sym (ap atPlace (c .before .before .k .given .1)) ∙ known a
+
+returns-2 : tie.Need-returns-2
+returns-2 c = sym (ap atPlace (c .enum-told .given .1)) ∙ known (c .before .before)
+
+pub from-name-spec : {M : Type 1} → statement M
+from-name-spec =
+    tie.close
+    (tie.spec
+    find-requires
+    enum-known-k
+    number-at-requires
+    enum-told
+    returns
+    returns-2)

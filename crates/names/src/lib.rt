@@ -1,0 +1,133 @@
+// The names of the operators: `from_name` (composite.rs, 352 to 386) on bytes of any length.
+// The contracts cite specs/Names, the readable list of the names, and specs/Packed, how the code keeps them.
+ghost use mathlib.Core.Path.{_≡_};
+ghost use Prim.Native.Nat.{_≤_, _<_};
+ghost use lib.ListN.{length, getD};
+ghost use Rattle.names.specs.Names.{isKept, lower, keyOf, same, numbers, fromName};
+ghost use Rattle.names.specs.Packed.{total, cut, placeFrom};
+use operators::CompositeOp;
+
+// What a name names: an operator, by its number; or nothing (fault 3, OPERATOR).
+pub enum Named {
+    Operator(u64),
+    Unknown,
+}
+
+// A place in the list of names.
+enum Place {
+    At(usize),
+    Nowhere,
+}
+
+// The operators' numbers of the 13 aliases; a name's number is its place.
+const ALIASES: [u64; 13] = [0, 1, 2, 3, 17, 17, 18, 23, 25, 57, 45, 27, 28];
+
+// Whether a byte counts: '-', '_' and space do not.
+fn is_kept(b: u8) -> bool
+    ensures { λ r. ⌜ r ≡ isKept b ⌝ }
+{
+    if b == b'-' {
+        return false;
+    }
+    if b == b'_' {
+        return false;
+    }
+    b != b' '
+}
+
+fn lowered(b: u8) -> u8
+    ensures { λ r. ⌜ r ≡ lower b ⌝ }
+{
+    if b < b'A' {
+        return b;
+    }
+    if b'Z' < b {
+        return b;
+    }
+    b + 32
+}
+
+// Whether a text reads as a name.
+fn reads_as(s: &[u8], name: &[u8]) -> bool
+    ensures { λ r. ⌜ r ≡ same (keyOf (now (s .entry))) (now (name .entry)) ⌝ }
+{
+    let mut i = 0;
+    let mut j = 0;
+    while i < s.len() {
+        let b = s[i];
+        if is_kept(b) {
+            if name.len() <= j {
+                return false;
+            }
+            if lowered(b) != name[j] {
+                return false;
+            }
+            j += 1;
+        }
+        i += 1;
+    }
+    j == name.len()
+}
+
+fn wide(b: u8) -> usize
+    ensures { λ r. ⌜ r ≡ b ⌝ }
+{
+    b as usize
+}
+
+// The place of the first name that a text reads as. The names stand end to end, beside their lengths.
+fn find(s: &[u8], names: &[u8], lengths: &[u8]) -> Place
+    requires { ⌜ total (now lengths) ≤ length (now names) ⌝ }
+    ensures { λ r. ⌜ r ≡ placeFrom 0 (keyOf (now (s .entry))) (cut (now (lengths .entry)) (now (names .entry))) ⌝ }
+{
+    let mut at = 0;
+    let mut k = 0;
+    while k < lengths.len() {
+        let end = at + wide(lengths[k]);
+        if reads_as(s, &names[at..end]) {
+            return Place::At(k);
+        }
+        at = end;
+        k += 1;
+    }
+    Place::Nowhere
+}
+
+// The number of the operator at a place of the list.
+fn number_at(k: usize) -> u64
+    requires { ⌜ k < length numbers ⌝ }
+    ensures { λ r. ⌜ r ≡ getD numbers k 0 ⌝ }
+{
+    let own = CompositeOp::COUNT as usize;
+    if k < own {
+        return k as u64;
+    }
+    ALIASES[k - own]
+}
+
+// What a text names. The 70 names and the 13 aliases stand end to end, each line of them beside a line of their lengths.
+pub fn from_name(s: &[u8]) -> Named
+    ensures { λ r. ⌜ r ≡ fromName (now (s .entry)) ⌝ }
+{
+    let names =
+        b"overinoutatopxorplusmultiplyscreenoverlaydarkenlightendifferencehardlightsoftlight\
+        colordodgecolorburnclearsrcdstdstoverdstindstoutdstatopminusdstminussrcdividedst\
+        dividesrcmodulusaddmodulussubtractexclusionlinearburnlineardodgelinearlight\
+        vividlightpinlighthardmixpegtoplightsoftburnsoftdodgestampfreezereflectnegate\
+        interpolatemathematicsblenddissolvermsedarkenintensitylightenintensityhuesaturate\
+        luminizecolorizecopyredcopygreencopybluecopyalphacopycyancopymagentacopyyellow\
+        copyblackchangemaskbumpmapthresholddisplacedistortblurintensitymodulate\
+        srcoversrcinsrcoutsrcatopcopyreplacenoneminusdividecopyopacityaverageaddsubtract";
+    let lengths = b"\x04\x02\x03\x04\x03\x04\x08\x06\x07\x06\x07\x0a\x09\x09\
+        \x0a\x09\x05\x03\x03\x07\x05\x06\x07\x08\x08\x09\
+        \x09\x0a\x0f\x09\x0a\x0b\x0b\
+        \x0a\x08\x07\x0b\x08\x09\x05\x06\x07\x06\
+        \x0b\x0b\x05\x08\x04\x0f\x10\x03\x08\
+        \x08\x08\x07\x09\x08\x09\x08\x0b\x0a\
+        \x09\x0a\x07\x09\x08\x07\x04\x09\x08\
+        \x07\x05\x06\x07\x04\x07\x04\x05\x06\x0b\x07\x03\x08";
+    match find(s, names, lengths) {
+        Place::At(k) => Named::Operator(number_at(k)),
+        Place::Nowhere => Named::Unknown,
+    }
+}
