@@ -1,4 +1,4 @@
--- The operators and their numbers: `CompositeOp::ALL` and `is_map` (composite.rs, 197 to 270 and 388 to 392).
+-- The operators and their numbers: `CompositeOp::ALL` and `is_map` (composite.rs, 198 to 269 and 380 to 382).
 -- Document 01: "Numbers follow `CompositeOp::ALL`".
 use mathlib.Core.Path.{_≡_}
 use mathlib.Core.Bool.{Bool, false, _||_}

@@ -1,4 +1,4 @@
-// The 70 operators of `CompositeOp` (composite.rs, 46 to 394): their numbers, what a number names, their conventions.
+// The 70 operators of `CompositeOp` (composite.rs, 46 to 383): their numbers, what a number names, their conventions.
 // The contracts cite specs/Operators, specs/Numbers and specs/Conventions.
 ghost use mathlib.Core.Path.{_≡_};
 ghost use Rattle.operators.specs.Operators.{numberOf, opAt, isMap};
@@ -81,7 +81,7 @@ pub enum CompositeOp {
     Modulate,
 }
 
-// How an operator combines its blend with the alphas (composite.rs, 906 to 914).
+// How an operator combines its blend with the alphas (composite.rs, 909 to 914).
 pub enum Convention {
     Premult,
     Divided,
