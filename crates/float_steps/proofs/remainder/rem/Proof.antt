@@ -1,0 +1,17 @@
+-- `remainder::rem` meets its contract. Assumes nothing.
+use mathlib.Core.Path.{sym}
+use lib.Ieee.{binary32}
+use borrow.Author.Needs.{needs}
+use Rattle.float_steps.proofs.Choice.{told}
+use Rattle.float_steps.proofs.OwnRemainder.{between}
+use Rattle.float_steps.proofs.remainder.rem.Statement.{statement}
+use Rattle.float_steps.proofs.remainder.rem.Tie as tie
+
+returns : tie.Need-returns
+returns c = sym (between binary32 (c .before .before .args .v) (c .before .before .args .m) (told (c .before .before .good .0 .1)) (c .before .if1 .taken) (c .if2 .taken))
+
+returns-2 : tie.Need-returns-2
+returns-2 c = search needs
+
+pub rem-spec : {M : Type 1} → statement M
+rem-spec = tie.close (tie.spec returns returns-2)
