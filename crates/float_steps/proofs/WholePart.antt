@@ -2,20 +2,21 @@
 use mathlib.Core.Path.{_≡_, refl, sym, ap, subst, _∙_}
 use mathlib.Core.Logic.{_⊎_, inl, inr}
 use mathlib.Core.Bool.{Bool, true, false, _&&_, _||_, true≢false}
-use Prim.Native.Nat.{ℕ, zero, suc, _+_, _-_, _*_, _/_, _%_, _^_, _<_, _≤_, min}
-use native.Mathlib.Nat.{mul-one, zero-mul, le-trans, le-of-eq, le-of-lt, lt-of-lt-of-le, lt-of-le-of-lt, le-div-iff-mul-le, div-lt-iff-lt-mul, mul-pos, mul-comm, mul-assoc, div-div-eq-div-mul, mul-le-mul-right, mul-le-mul-left, lt-of-not-le, not-le-of-lt, add-mul-div-right}
+use Prim.Native.Nat.{ℕ, zero, suc, _+_, _*_, _/_, _^_, _<_, _≤_, min}
+use native.Mathlib.Nat.{lt-of-lt-of-le, mul-le-mul-right, mul-one, zero-mul, le-trans, le-of-eq, le-of-lt, lt-of-le-of-lt, le-div-iff-mul-le, div-lt-iff-lt-mul, mul-pos, mul-comm, div-div-eq-div-mul, lt-of-not-le, add-mul-div-right}
 use native.Mathlib.Omega.{arith}
-use lib.IntN.{ℤ, pos, negsuc}
-use lib.Dec.{T, ltb, leb, eqb, ltb→lt, leb→le, eqb→eq, lit<}
-use lib.Pow.{pow-add, pow-pos, pow-mono}
+use lib.IntN.{pos}
+use lib.Dec.{T, ltb, eqb, ltb→lt, eqb→eq, lit<, lit≤}
+use lib.Pow.{pow-pos}
 use lib.Ieee.{Float, nan, inf, fin, binary32, up, down, round, mul, lt, le, fits, toUnsigned}
 use lib.Ieee.Fits.{down-pos, and-l, and-r}
-use lib.Ieee.Exact.{HasValue, round-exact}
+use lib.Ieee.Exact.{HasValue}
 use lib.Ieee.Nearest.{div-same}
 use lib.Ieee.Positive.{num, den, positive, den-pos, mul-at, cross→le}
 use borrow.Author.Tests.{ltb-true, ltb-false, lt-ltb}
 use Rattle.float_steps.specs.Whole.{floorOf, roundByteOf}
 use Rattle.float_steps.proofs.Choice.{never}
+use Rattle.float_steps.proofs.Number.{held, round-scaled}
 
 -- ---- `floorOf`
 abbrev minus-one : Float
@@ -71,59 +72,17 @@ floor-value (fin false m e) a c C h l = ap (λ (z : ℕ). min z 0xffff_ffff_ffff
 abbrev two : Float
 two = fin false 1 (pos 1)
 
-pow-less : (i j : ℕ) → 2 ^ i ≤ 2 ^ j → i ≤ j
-pow-less i j h = le-or (lt-of-not-le (λ (g : suc j ≤ i). not-le-of-lt (lt-of-lt-of-le (bigger j) (pow-mono g)) h))
-  where
-    bigger : (n : ℕ) → 2 ^ n < 2 ^ suc n
-    bigger n = omega (arith, pow-add 2 n 1, pow-pos n)
+doubled : (a d : ℕ) → a < 255 * d → a * 2 < 510 * d
+doubled a d h = omega arith
 
-    le-or : i < suc j → i ≤ j
-    le-or g = omega arith
-
-double-exact : (m : ℕ) (e : ℤ) → m < 2 ^ 24 → down e ≤ 2 ^ 149 → m * up e < 255 * down e → HasValue (round binary32 false (m * up e * 2) (down e * 1)) false (m * up e * 2) (down e * 1)
-double-exact m (pos k) hm hd hu =
-    round-exact binary32 false (m * 2 ^ k * 2) (1 * 1) m (k + 150) (lit< tt) hm
-    (lt-of-le-of-lt (le-of-eq e1) (lt-of-le-of-lt (mul-le-mul-right (2 ^ 150) (le-of-lt hu)) (lit< tt)))
-    (mul-assoc (m * 2 ^ k) 2 (2 ^ 149) ∙ sym e1 ∙ sym (mul-one (m * 2 ^ (k + 150))))
-  where
-    e1 : m * 2 ^ (k + 150) ≡ m * 2 ^ k * 2 ^ 150
-    e1 = ap (λ (z : ℕ). m * z) (pow-add 2 k 150) ∙ sym (mul-assoc m (2 ^ k) (2 ^ 150))
-double-exact m (negsuc k) hm hd hu =
-    let s : suc k ≤ 149 = pow-less (suc k) 149 hd in
-    let j = 150 - suc k in
-    let e2 : j + suc k ≡ 150 = omega arith in
-    let jl : j ≤ 150 = omega arith in
-    round-exact binary32 false (m * 1 * 2) (2 ^ suc k * 1) m j (mul-pos (pow-pos (suc k)) (lit< tt)) hm
-    (lt-of-le-of-lt (mul-le-mul-left m (pow-mono jl)) (lt-of-le-of-lt (mul-le-mul-right (2 ^ 150) (le-of-lt hm)) (lit< tt)))
-    (ap (λ (z : ℕ). z * 2 * 2 ^ 149) (mul-one m)
-    ∙ mul-assoc m 2 (2 ^ 149)
-    ∙ ap (λ (z : ℕ). m * 2 ^ z) (sym e2)
-    ∙ ap (λ (z : ℕ). m * z) (pow-add 2 j (suc k))
-    ∙ sym (mul-assoc m (2 ^ j) (2 ^ suc k))
-    ∙ ap (λ (z : ℕ). m * 2 ^ j * z) (sym (mul-one (2 ^ suc k))))
-
-fit-parts : (m : ℕ) (e : ℤ) → T (fits binary32 (fin false m e)) → 0 < m → (m < 2 ^ 24) × (down e ≤ 2 ^ 149)
-unfolding fits
-fit-parts zero e t h = absurd (no-zero h)
-  where
-    no-zero : 0 < 0 → ⊥
-    no-zero g = omega arith
-fit-parts (suc m) e t h =
-    let a = eqb (suc m % 2) 1 in
-    let b = ltb (suc m) (2 ^ 24) in
-    let c = leb (down e) (2 ^ 149) in
-    let d = ltb (suc m * up e) (2 ^ 128 * down e) in
-    let abc : T (a && b && c) = and-l (a && b && c) d t in
-    (ltb→lt (suc m) (2 ^ 24) (and-r a b (and-l (a && b) c abc)), leb→le (down e) (2 ^ 149) (and-r (a && b) c abc))
-
-pub twice-value : (x : Float) → T (fits binary32 x) → T (positive x) → num x < 255 * den x → HasValue (mul binary32 x two) false (num x * 2) (den x * 1)
+pub twice-value : (x : Float) → T (fits binary32 x) → T (positive x) → num x < 255 * den x → HasValue (mul binary32 x two) false (num x * 2) (den x)
 twice-value nan f p h = absurd p
 twice-value (inf s) f p h = absurd p
 twice-value (fin true m e) f p h = absurd p
 twice-value (fin false m e) f p h =
-    let q = fit-parts m e f (ltb→lt 0 m p) in
-    subst (λ (z : Float). HasValue z false (m * up e * 2) (down e * 1)) (sym (mul-at binary32 (fin false m e) two (m * up e) (down e) 2 1 p tt (down-pos e) (lit< tt) (refl, refl) (refl, refl)))
-    (double-exact m e (q .0) (q .1) h)
+    subst (λ (z : Float). HasValue z false (m * up e * 2) (down e))
+    (sym (mul-at binary32 (fin false m e) two (m * up e) (down e) 2 1 p tt (down-pos e) (lit< tt) (refl, refl) (refl, refl) ∙ ap (round binary32 false (m * up e * 2)) (mul-one (down e))))
+    (round-scaled binary32 false m e 1 (held binary32 false m e f) (lt-of-lt-of-le (doubled (m * up e) (down e) h) (mul-le-mul-right (down e) (lit≤ tt))))
 
 -- ---- `roundByteOf`
 abbrev c255 : Float
@@ -198,10 +157,9 @@ mid-below x p k = lt-of-not-le (λ (g : 255 * den x ≤ num x). true≢false (is
     is-true' true t e = e
     is-true' false t e = absurd t
 
-halves : (a d : ℕ) → 0 < d → (a * 2 / (d * 1) + 1) / 2 ≡ (2 * a + d) / (2 * d)
+halves : (a d : ℕ) → 0 < d → (a * 2 / d + 1) / 2 ≡ (2 * a + d) / (2 * d)
 halves a d D =
-    ap (λ (z : ℕ). (a * 2 / z + 1) / 2) (mul-one d)
-    ∙ ap (λ (z : ℕ). z / 2) (sym (add-mul-div-right (a * 2) 1 D))
+    ap (λ (z : ℕ). z / 2) (sym (add-mul-div-right (a * 2) 1 D))
     ∙ div-div-eq-div-mul (a * 2 + 1 * d) d 2
     ∙ ap (λ (z : ℕ). z / (d * 2)) (sums a d)
     ∙ ap (λ (z : ℕ). (2 * a + d) / z) (mul-comm d 2)
@@ -217,31 +175,21 @@ rounds (fin true m e) p h = absurd p
 rounds (fin false m e) p h = sym (uncapped ((2 * (m * up e) + down e) / (2 * down e)) 255 h)
 
 -- what the code floors, and what it makes of it
-pub mid-floor : (x : Float) → T (fits binary32 x) → lt nought x ≡ true → le c255 x ≡ false → floorOf (mul binary32 x two) ≡ num x * 2 / (den x * 1)
+pub mid-small : (x : Float) → lt nought x ≡ true → le c255 x ≡ false → num x * 2 / den x < 510
+mid-small x h k = div-lt-iff-lt-mul (den-pos x) .1 (doubled (num x) (den x) (mid-below x (mid-positive x h k) k))
+
+pub mid-floor : (x : Float) → T (fits binary32 x) → lt nought x ≡ true → le c255 x ≡ false → floorOf (mul binary32 x two) ≡ num x * 2 / den x
 mid-floor x f h k =
     let p = mid-positive x h k in
-    let b = mid-below x p k in
-    let D = mul-pos (den-pos x) (lit< tt) in
-    floor-value (mul binary32 x two) (num x * 2) (den x * 1) D (twice-value x f p b) (small (num x * 2 / (den x * 1)) (div-lt-iff-lt-mul D .1 (subst (λ (z : ℕ). num x * 2 < 510 * z) (sym (mul-one (den x))) (grown (num x) (den x) b))))
+    floor-value (mul binary32 x two) (num x * 2) (den x) (den-pos x) (twice-value x f p (mid-below x p k)) (small (num x * 2 / den x) (mid-small x h k))
   where
     small : (z : ℕ) → z < 510 → z ≤ 0xffff_ffff_ffff_ffff
     small z g = omega arith
 
-    grown : (a d : ℕ) → a < 255 * d → a * 2 < 510 * d
-    grown a d g = omega arith
-
-pub mid-small : (x : Float) → lt nought x ≡ true → le c255 x ≡ false → num x * 2 / (den x * 1) < 510
-mid-small x h k =
-    let b = mid-below x (mid-positive x h k) k in
-    div-lt-iff-lt-mul (mul-pos (den-pos x) (lit< tt)) .1 (subst (λ (z : ℕ). num x * 2 < 510 * z) (sym (mul-one (den x))) (grown (num x) (den x) b))
-  where
-    grown : (a d : ℕ) → a < 255 * d → a * 2 < 510 * d
-    grown a d g = omega arith
-
-pub mid-byte : (x : Float) → lt nought x ≡ true → le c255 x ≡ false → (num x * 2 / (den x * 1) + 1) / 2 ≡ roundByteOf x
+pub mid-byte : (x : Float) → lt nought x ≡ true → le c255 x ≡ false → (num x * 2 / den x + 1) / 2 ≡ roundByteOf x
 mid-byte x h k =
     let e = halves (num x) (den x) (den-pos x) in
-    let s : (num x * 2 / (den x * 1) + 1) / 2 ≤ 255 = under (num x * 2 / (den x * 1)) (mid-small x h k) in
+    let s : (num x * 2 / den x + 1) / 2 ≤ 255 = under (num x * 2 / den x) (mid-small x h k) in
     e ∙ rounds x (mid-positive x h k) (subst (λ (z : ℕ). z ≤ 255) e s)
   where
     under : (z : ℕ) → z < 510 → (z + 1) / 2 ≤ 255

@@ -19,7 +19,7 @@ floor-requires : tie.Need-floor-requires
 floor-requires c κs = search needs
 
 -- what is floored
-floored : (c : tie.After-floor) → c .floor .result ≡ num (c .before .before .before .args .x) * 2 / (den (c .before .before .before .args .x) * 1)
+floored : (c : tie.After-floor) → c .floor .result ≡ num (c .before .before .before .args .x) * 2 / den (c .before .before .before .args .x)
 unfolding ofBits
 floored c = c .floor .ensures ∙ mid-floor (c .before .before .before .args .x) (told (c .before .before .before .good .0 .1)) (c .before .if2 .taken) (c .before .before .if1 .left)
 
