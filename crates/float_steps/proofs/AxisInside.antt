@@ -5,8 +5,8 @@ use Prim.Native.Nat.{ℕ, suc, _*_, _/_, _^_, _<_, _≤_, min}
 use native.Mathlib.Nat.{mul-one, le-trans, le-of-eq, lt-of-le-of-lt, div-lt-iff-lt-mul, mul-right-comm, le-of-mul-le-mul-right, suc-mul}
 use native.Mathlib.Omega.{arith}
 use lib.IntN.{pos}
-use lib.Dec.{T, le→leb, lit<}
-use lib.Ieee.{Float, nan, inf, fin, binary32, ofBits, up, down, lt, isNan, ofInt, inFloat}
+use lib.Dec.{T, lit<}
+use lib.Ieee.{Float, nan, inf, fin, binary32, ofBits, up, down, lt, isNan, ofInt}
 use lib.Ieee.Fits.{down-pos}
 use lib.Ieee.Exact.{HasValue}
 use lib.Ieee.Back.{round-whole}
@@ -65,10 +65,6 @@ floor-held x n h = go (isNan x) (lt x (ofBits binary32 0)) (lt (ofInt binary32 (
     go false true c p q = floor-nought n
     go false false true p q = floor-hi n h
     go false false false p q = floor-under (ofInt binary32 (pos n)) x n (whole-hi n h) q (subst (λ (z : Bool). T (not z)) (sym p) tt)
-
-pub in-float : (n : ℕ) → n ≤ 2 ^ 24 → T (inFloat binary32 (pos n))
-unfolding inFloat
-in-float n h = le→leb n (2 ^ 24) h
 
 -- the last index, and the floor of a coordinate that is held up to it, are whole numbers that an f32 holds
 pub last-small : (side : ℕ) → lastOf side ≤ 2 ^ 24

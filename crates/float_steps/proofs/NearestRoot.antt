@@ -9,9 +9,9 @@ use lib.Dec.{T, eqb, isLe, isEq, leb→le, nleb→lt, eqb→eq, eqb-refl, lit<, 
 use lib.Pow.{pow-add, pow-pos}
 use lib.Ieee.{binary32, size, nearest, units, ofBits}
 use lib.Ieee.Digits.{size-le}
-use Rattle.float_steps.specs.Root.{nearestRoot}
+use Rattle.float_steps.specs.Root.{IsRoot, nearestRoot}
 use Rattle.float_steps.proofs.Patterns.{size-gt, word-units}
-use Rattle.float_steps.proofs.WholeRoot.{IsRoot, sq-mono, sq-less, square-twice, root-exactly}
+use Rattle.float_steps.proofs.WholeRoot.{sq-mono, sq-less, square-twice, root-exactly}
 
 -- ---- what `compare` says
 abbrev Cmp : Ordering → ℕ → ℕ → Type 0

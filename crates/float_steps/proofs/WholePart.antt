@@ -6,9 +6,9 @@ use Prim.Native.Nat.{ℕ, zero, suc, _+_, _*_, _/_, _^_, _<_, _≤_, min}
 use native.Mathlib.Nat.{lt-of-lt-of-le, mul-le-mul-right, mul-one, zero-mul, le-trans, le-of-eq, le-of-lt, lt-of-le-of-lt, le-div-iff-mul-le, div-lt-iff-lt-mul, mul-pos, mul-comm, div-div-eq-div-mul, lt-of-not-le, add-mul-div-right}
 use native.Mathlib.Omega.{arith}
 use lib.IntN.{pos}
-use lib.Dec.{T, ltb, eqb, ltb→lt, eqb→eq, lit<, lit≤}
+use lib.Dec.{T, ltb, eqb, ltb→lt, eqb→eq, le→leb, lit<, lit≤}
 use lib.Pow.{pow-pos}
-use lib.Ieee.{Float, nan, inf, fin, binary32, up, down, round, mul, lt, le, fits, toUnsigned}
+use lib.Ieee.{Float, nan, inf, fin, binary32, up, down, round, mul, lt, le, fits, toUnsigned, Format, prec, inFloat}
 use lib.Ieee.Fits.{down-pos, and-l, and-r}
 use lib.Ieee.Exact.{HasValue}
 use lib.Ieee.Nearest.{div-same}
@@ -17,6 +17,11 @@ use borrow.Author.Tests.{ltb-true, ltb-false, lt-ltb}
 use Rattle.float_steps.specs.Whole.{floorOf, roundByteOf}
 use Rattle.float_steps.proofs.Choice.{never}
 use Rattle.float_steps.proofs.Number.{held, round-scaled}
+
+-- ---- a whole number that a format counts without a gap
+pub in-float : (f : Format) (n : ℕ) → n ≤ 2 ^ prec f → T (inFloat f (pos n))
+unfolding inFloat
+in-float f n h = le→leb n (2 ^ prec f) h
 
 -- ---- `floorOf`
 abbrev minus-one : Float

@@ -4,17 +4,17 @@ use mathlib.Core.Bool.{Bool, true, false, not, cond}
 use Prim.Native.Nat.{ℕ, zero, suc, _+_, _*_, _/_, _^_, _<_, _≤_}
 use native.Mathlib.Nat.{le-trans, le-of-eq, le-antisymm, lt-of-lt-of-le, lt-of-le-of-lt, lt-of-not-le, not-le-of-lt, mul-le-mul, mul-assoc, mul-left-comm, pow-succ'}
 use native.Mathlib.Omega.{arith}
-use lib.Dec.{T, leb, leb→le, nleb→lt}
+use lib.Dec.{T, leb, leb→le, nleb→lt, lit<}
 use lib.Ieee.{size}
 use lib.Ieee.Digits.{size-lt}
-use Rattle.float_steps.specs.Root.{grown, rootBy, rootOf}
-
--- r is the whole part of n's root
-abbrev pub IsRoot : ℕ → ℕ → Type 0
-IsRoot r n = (r * r ≤ n) × (n < (r + 1) * (r + 1))
+use Rattle.float_steps.specs.Root.{IsRoot, grown, rootBy, rootOf}
 
 pub sq-mono : {a b : ℕ} → a ≤ b → a * a ≤ b * b
 sq-mono h = mul-le-mul h h
+
+-- the squares that 64 digits hold
+pub square-below : (x : ℕ) → x ≤ 0xffff_ffff → x * x < 2 ^ 64
+square-below x h = lt-of-le-of-lt (sq-mono h) (lit< tt)
 
 -- a square that is smaller is a smaller number's
 pub sq-less : (a b : ℕ) → a * a < b * b → a < b

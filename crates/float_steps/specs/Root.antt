@@ -1,20 +1,24 @@
 -- Document 01, "Float steps": the square root is the nearest f32, ties to even; of a negative or NaN, NaN; of a zero or plus infinity, itself.
 -- Its meaning is a comparison of whole-number squares: `WholeRoot` and `NearestRoot` of proofs/ say in plain words what `rootOf` and `nearestRoot` are.
-use Prim.Native.Nat.{ℕ, zero, suc, _+_, _-_, _*_, _/_, _^_, compare}
+use Prim.Native.Nat.{ℕ, zero, suc, _+_, _-_, _*_, _/_, _^_, _≤_, _<_, compare}
 use mathlib.Core.Bool.{false, cond}
 use lib.Dec.{leb, eqb}
 use lib.Ieee.{Float, nan, inf, fin, binary32, up, down, size, nearest, units}
+
+-- r is the whole root of n: the largest number whose square is at most n
+abbrev pub IsRoot : ℕ → ℕ → Type 0
+IsRoot r n = (r * r ≤ n) × (n < (r + 1) * (r + 1))
 
 -- r + 1 where its square is at most n, and r otherwise
 abbrev pub grown : ℕ → ℕ → ℕ
 grown n r = cond (leb ((r + 1) * (r + 1)) n) (r + 1) r
 
--- the largest r whose square is at most n, for an n of at most d binary digits: twice the root of n / 4, or one more
+-- the whole root of an n of at most d binary digits: twice the root of n / 4, or one more
 unfoldable pub rootBy : ℕ → ℕ → ℕ
 rootBy zero n = 0
 rootBy (suc d) n = grown n (2 * rootBy d (n / 4))
 
--- the largest r whose square is at most n
+-- the whole root of n
 unfoldable pub rootOf : ℕ → ℕ
 unfolding rootBy
 rootOf n = rootBy (size n) n

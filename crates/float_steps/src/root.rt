@@ -3,12 +3,33 @@ use crate::words::value;
 use crate::words::word;
 ghost use mathlib.Core.Path.{_≡_};
 ghost use Prim.Native.Nat.{_+_, _*_, _^_, _≤_, _<_};
-ghost use Rattle.float_steps.specs.Root.{nearestRoot, sqrtOf};
+ghost use Rattle.float_steps.specs.Root.{IsRoot, nearestRoot, sqrtOf};
 ghost use Rattle.float_steps.specs.Words.{valueOf};
 
+// A guess at the root of n: for an n of 49 or 50 digits the root or one less, by two steps of
+// Newton's from a parabola. Nothing rests on it but the speed.
+fn guess(n: u64) -> u64
+    requires { ⌜ n ≤ 2 ^ 53 ⌝ }
+    ensures { λ r. ⌜ r < 0xffff_fffe ⌝ }
+{
+    let x = n as f64;
+    let a = 9108885.072 + x * (0.0000000299309458 - x * 0.000000000000000000000007358611765029);
+    let b = 0.5 * (a + x / a);
+    let c = 0.5 * (b + x / b) - 0.03;
+    if c > -1.0 {
+        if c < 18446744073709551616.0 {
+            let g = std::num::truncating_f64_to_u64(c);
+            if g < 0xffff_fffe {
+                return g;
+            }
+        }
+    }
+    0
+}
+
 // The largest r with r * r <= n, by bisection.
-fn whole_root(n: u64) -> u64
-    ensures { λ r. ⌜ (r * r ≤ n) × (n < (r + 1) * (r + 1)) ⌝ }
+fn bisect(n: u64) -> u64
+    ensures { λ r. ⌜ IsRoot r n ⌝ }
 {
     let mut lo: u64 = 0;
     let mut hi: u64 = 0x1_0000_0000;
@@ -21,6 +42,24 @@ fn whole_root(n: u64) -> u64
         }
     }
     lo
+}
+
+// The largest r with r * r <= n: the guess, or the number after it, where its square and the next
+// one say so, and by bisection otherwise.
+fn whole_root(n: u64) -> u64
+    requires { ⌜ n ≤ 2 ^ 53 ⌝ }
+    ensures { λ r. ⌜ IsRoot r n ⌝ }
+{
+    let g = guess(n);
+    if g * g <= n {
+        if n < (g + 1) * (g + 1) {
+            return g;
+        }
+        if n < (g + 2) * (g + 2) {
+            return g + 1;
+        }
+    }
+    bisect(n)
 }
 
 // The word of the root of m * 2 ^ (scale - 277). The radicand has 49 or 50 digits, so its root has

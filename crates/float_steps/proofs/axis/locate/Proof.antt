@@ -3,11 +3,12 @@
 use mathlib.Core.Path.{sym, subst}
 use Prim.Native.Nat.{_^_, _≤_}
 use native.Mathlib.Omega.{arith}
-use lib.Ieee.{Float}
+use lib.Ieee.{Float, binary32}
 use borrow.Author.Needs.{needs}
 use Rattle.float_steps.specs.Axis.{axisAt, axisOf}
 use Rattle.float_steps.specs.Whole.{floorOf}
-use Rattle.float_steps.proofs.AxisInside.{floor-held, in-float}
+use Rattle.float_steps.proofs.AxisInside.{floor-held}
+use Rattle.float_steps.proofs.WholePart.{in-float}
 use Rattle.float_steps.proofs.axis.locate.Statement.{statement}
 use Rattle.float_steps.proofs.axis.locate.Tie as tie
 
@@ -15,7 +16,7 @@ last-of-requires : tie.Need-last-of-requires
 last-of-requires c κs = search needs
 
 int-to-float-held : tie.Need-int-to-float-held
-int-to-float-held c = in-float (c .before .last-of .result) (omega (arith, c .before .last-of .ensures))
+int-to-float-held c = in-float binary32 (c .before .last-of .result) (omega (arith, c .before .last-of .ensures))
 
 held-requires : tie.Need-held-requires
 held-requires c κs = search needs
@@ -32,7 +33,7 @@ int-to-float-t7 c =
     let low : last .result ≤ 2 ^ 24 = omega (arith, last .ensures) in
     let within : floorOf (c .before .before .before .held .result) ≤ last .result =
     subst (λ (v : Float). floorOf v ≤ last .result) (sym (c .before .before .before .held .ensures)) (floor-held (c .before .before .before .before .before .before .args .x) (last .result) low) in
-    in-float (c .before .before .floor .result) (omega (arith, c .before .before .floor .ensures))
+    in-float binary32 (c .before .before .floor .result) (omega (arith, c .before .before .floor .ensures))
 
 returns : tie.Need-returns
 unfolding axisOf axisAt

@@ -17,7 +17,7 @@ mul-radicand-2 : tie.Need-mul-radicand-2
 mul-radicand-2 c = omega (arith, radicand-hi (c .args .m) (c .args .scale) (c .pre .0) (c .pre .1))
 
 whole-root-requires : tie.Need-whole-root-requires
-whole-root-requires c κs = search needs
+whole-root-requires c κs = omega (arith, radicand-hi (c .args .m) (c .args .scale) (c .pre .0) (c .pre .1))
 
 sub-result : tie.Need-sub-result
 sub-result c = search needs

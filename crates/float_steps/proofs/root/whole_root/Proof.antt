@@ -1,62 +1,65 @@
--- `root::whole_root` meets its contract: the root lies from `lo` on and below `hi`, and the gap closes.
+-- `root::whole_root` meets its contract, whatever the guess: a number is answered only where its square and the next one hold n between them.
 -- Assumes nothing.
-use Prim.Native.Nat.{ℕ, _+_, _-_, _*_, _≤_, _<_}
-use mathlib.Core.Path.{_≡_, subst}
-use native.Mathlib.Nat.{mul-le-mul, lt-of-le-of-lt}
 use native.Mathlib.Omega.{arith}
-use lib.Dec.{lit<, lit≤}
 use mir.Facts.{fits-bits}
+use Rattle.float_steps.proofs.WholeRoot.{square-below}
+use borrow.Author.Needs.{needs}
 use Rattle.float_steps.proofs.root.whole_root.Statement.{statement}
 use Rattle.float_steps.proofs.root.whole_root.Tie as tie
 
-abbrev Inv-loop : tie.InvT-loop
-Inv-loop n lo₀ hi₀ lo hi = (lo * lo ≤ n) × (n < hi * hi) × (lo < hi) × (hi ≤ 0x1_0000_0000)
+guess-requires : tie.Need-guess-requires
+guess-requires c κs = search needs
 
-abbrev μ-loop : tie.MeasureT-loop
-μ-loop n lo₀ hi₀ lo hi = hi - lo
+mul-if1 : tie.Need-mul-if1
+mul-if1 c = fits-bits 64 tt (square-below (c .guess .result) (omega (arith, c .guess .ensures)))
 
-loop-holds : tie.Need-loop-holds Inv-loop μ-loop
-loop-holds c = (omega arith, c .fits .n .fits, lit< tt, lit≤ tt)
+add-if2 : tie.Need-add-if2
+add-if2 c = search needs
 
-add-loop : tie.Need-add-loop Inv-loop μ-loop
-add-loop c = omega arith
+add-if2-2 : tie.Need-add-if2-2
+add-if2-2 c = search needs
 
-add-mid : tie.Need-add-mid Inv-loop μ-loop
-add-mid c = omega arith
+mul-if2 : tie.Need-mul-if2
+mul-if2 c = search needs
 
-mul-if1 : tie.Need-mul-if1 Inv-loop μ-loop
-mul-if1 c = fits-bits 64 tt (lt-of-le-of-lt (mul-le-mul {n₂ = 0xffff_ffff} {m₂ = 0xffff_ffff} (omega arith) (omega arith)) (lit< tt))
+returns : tie.Need-returns
+returns c = search needs
 
-loop-less : tie.Need-loop-less Inv-loop μ-loop
-loop-less c = omega arith
+add-if3 : tie.Need-add-if3
+add-if3 c = search needs
 
-loop-again : tie.Need-loop-again Inv-loop μ-loop
-loop-again c = (c .if1 .taken, c .before .before .loop .inv .1, omega arith, omega arith)
+add-if3-2 : tie.Need-add-if3-2
+add-if3-2 c = search needs
 
-loop-less-2 : tie.Need-loop-less-2 Inv-loop μ-loop
-loop-less-2 c = omega arith
+mul-if3 : tie.Need-mul-if3
+mul-if3 c = search needs
 
-loop-again-2 : tie.Need-loop-again-2 Inv-loop μ-loop
-loop-again-2 c = (c .before .before .loop .inv .0, c .if1 .left, omega arith, omega arith)
+add-result : tie.Need-add-result
+add-result c = search needs
 
-closed : (lo hi : ℕ) → lo < hi → hi ≤ lo + 1 → hi ≡ lo + 1
-closed lo hi h k = omega arith
+returns-2 : tie.Need-returns-2
+returns-2 c = search needs
 
-returns : tie.Need-returns Inv-loop μ-loop
-returns c = (c .before .loop .inv .0, subst (λ (z : ℕ). c .before .before .args .n < z * z) (closed (c .before .loop .lo) (c .before .loop .hi) (c .before .loop .inv .2) (c .loop-test .left)) (c .before .loop .inv .1))
+bisect-requires : tie.Need-bisect-requires
+bisect-requires c κs = search needs
+
+returns-3 : tie.Need-returns-3
+returns-3 c = search needs
 
 pub whole-root-spec : {M : Type 1} → statement M
 whole-root-spec =
     tie.close
     (tie.spec
-    Inv-loop
-    μ-loop
-    loop-holds
-    add-loop
-    add-mid
+    guess-requires
     mul-if1
-    loop-less
-    loop-again
-    loop-less-2
-    loop-again-2
-    returns)
+    add-if2
+    add-if2-2
+    mul-if2
+    returns
+    add-if3
+    add-if3-2
+    mul-if3
+    add-result
+    returns-2
+    bisect-requires
+    returns-3)
