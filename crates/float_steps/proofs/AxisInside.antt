@@ -1,4 +1,4 @@
--- Both pixels of `axisOf` lie on the side. Assumes nothing.
+-- Both pixels of `axisOf` lie on the side, for every coordinate and every side that has a pixel. Assumes nothing.
 use mathlib.Core.Path.{_≡_, refl, sym, ap, subst, _∙_}
 use mathlib.Core.Bool.{Bool, true, false, not, cond, true≢false}
 use Prim.Native.Nat.{ℕ, suc, _*_, _/_, _^_, _<_, _≤_, min}
@@ -17,7 +17,7 @@ use Rattle.float_steps.specs.Axis.{heldOf, lastOf, axisAt, axisOf}
 use Rattle.float_steps.proofs.Choice.{never}
 use Rattle.float_steps.proofs.WholePart.{floor-value}
 
--- ---- a place that is held within 0 and n floors to n at most
+-- ---- a coordinate that is held within 0 and n floors to n at most
 floor-under : (hi v : Float) (n : ℕ) → HasValue hi false n 1 → lt hi v ≡ false → T (not (isNan v)) → floorOf v ≤ n
 unfolding lt floorOf isNan
 floor-under nan v n h l t = absurd h
@@ -66,8 +66,8 @@ floor-held x n h = go (isNan x) (lt x (ofBits binary32 0)) (lt (ofInt binary32 (
     go false false true p q = floor-hi n h
     go false false false p q = floor-under (ofInt binary32 (pos n)) x n (whole-hi n h) q (subst (λ (z : Bool). T (not z)) (sym p) tt)
 
--- the last index, and the floor of a coordinate that is held up to it, are whole numbers that an f32 holds
-pub last-small : (side : ℕ) → lastOf side ≤ 2 ^ 24
+-- each whole number up to the last index is an f32
+last-small : (side : ℕ) → lastOf side ≤ 2 ^ 24
 last-small side = omega arith
 
 pub axis-inside : (x : Float) (side : ℕ) → 1 ≤ side → (axisOf x side .at < side) × (axisOf x side .next < side)

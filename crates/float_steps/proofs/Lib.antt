@@ -8,4 +8,5 @@ pub mod AxisInside
 mod Finite
 mod OwnRemainder
 mod Radicand
+mod RootEnds
 mod WholePart

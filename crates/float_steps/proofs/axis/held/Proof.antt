@@ -1,3 +1,4 @@
+-- `axis::held` meets its contract. Assumes nothing.
 use Rattle.float_steps.specs.Axis.{heldOf}
 use Rattle.float_steps.proofs.Choice.{yes, no}
 use Rattle.float_steps.proofs.Nan.{ne-self}

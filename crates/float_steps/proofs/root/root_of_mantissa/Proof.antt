@@ -1,3 +1,6 @@
+-- `root::root_of_mantissa` meets its contract: the radicand is even and has 49 or 50 digits, so half of its whole root, rounded up, is the nearest
+-- root's mantissa. Assumes nothing.
+use Prim.Native.Nat.{_<_}
 use native.Mathlib.Omega.{arith}
 use Rattle.float_steps.proofs.NearestRoot.{radicand-hi, root-small, mantissa-word}
 use borrow.Author.Needs.{needs}
@@ -25,14 +28,18 @@ sub-result c = search needs
 mul-result : tie.Need-mul-result
 mul-result c = search needs
 
+-- the root has 25 digits
+small : (c : tie.After-whole-root) → c .whole-root .result < 0x1ff_ffff
+small c = root-small (c .before .args .m) (c .before .args .scale) (c .before .pre .0) (c .before .pre .1) (c .whole-root .result) (c .whole-root .ensures)
+
 add-result : tie.Need-add-result
-add-result c = omega (arith, root-small (c .before .args .m) (c .before .args .scale) (c .before .pre .0) (c .before .pre .1) (c .whole-root .result) (c .whole-root .ensures))
+add-result c = omega (arith, small c)
 
 cast-result : tie.Need-cast-result
-cast-result c = omega (arith, root-small (c .before .args .m) (c .before .args .scale) (c .before .pre .0) (c .before .pre .1) (c .whole-root .result) (c .whole-root .ensures))
+cast-result c = omega (arith, small c)
 
 add-result-2 : tie.Need-add-result-2
-add-result-2 c = omega (arith, root-small (c .before .args .m) (c .before .args .scale) (c .before .pre .0) (c .before .pre .1) (c .whole-root .result) (c .whole-root .ensures))
+add-result-2 c = omega (arith, small c)
 
 returns : tie.Need-returns
 returns c = mantissa-word (c .before .args .m) (c .before .args .scale) (c .before .pre .0) (c .before .pre .1) (c .before .pre .2) (c .before .pre .3) (c .whole-root .result) (c .whole-root .ensures)

@@ -1,18 +1,26 @@
+-- `root::root_word` meets its contract: a subnormal value's mantissa is moved up by its leading zeros, and the scale goes down by as many.
+-- Assumes nothing.
 use mathlib.Core.Path.{sym, _∙_}
+use Prim.Native.Nat.{_-_, _%_}
 use native.Mathlib.Omega.{arith}
-use Rattle.float_steps.proofs.Radicand.{here, asked, given, sqrt-normal}
+use lib.Count.{leadingZeros}
+use Rattle.float_steps.proofs.Radicand.{Moved, here, asked, given, sqrt-normal}
 use borrow.Author.Needs.{needs}
 use Rattle.float_steps.proofs.root.root_word.Statement.{statement}
 use Rattle.float_steps.proofs.root.root_word.Tie as tie
 
+-- how a subnormal value's mantissa is moved up
+up : (c : tie.Then1) → Moved (c .before .args .w % 0x80_0000) (leadingZeros 32 (c .before .args .w % 0x80_0000) - 8)
+up c = here (c .before .args .w) (c .before .pre .0) (c .if1 .taken)
+
 sub-zeros : tie.Need-sub-zeros
-sub-zeros c = here (c .before .args .w) (c .before .pre .0) (c .if1 .taken) .eight
+sub-zeros c = up c .eight
 
 shl-root-of-mantissa : tie.Need-shl-root-of-mantissa
-shl-root-of-mantissa c = omega (arith, here (c .before .args .w) (c .before .pre .0) (c .if1 .taken) .few)
+shl-root-of-mantissa c = omega (arith, up c .few)
 
 sub-root-of-mantissa : tie.Need-sub-root-of-mantissa
-sub-root-of-mantissa c = omega (arith, here (c .before .args .w) (c .before .pre .0) (c .if1 .taken) .few)
+sub-root-of-mantissa c = omega (arith, up c .few)
 
 root-of-mantissa-requires : tie.Need-root-of-mantissa-requires
 root-of-mantissa-requires c κs = asked (c .before .args .w) (c .before .pre .0) (c .if1 .taken)

@@ -1,3 +1,5 @@
+-- `root::sqrt` meets its contract: a value above zero is its word's, and the root is made of that word; the other values have theirs without one.
+-- Assumes nothing.
 use mathlib.Core.Path.{sym, subst, ap, _∙_}
 use Prim.Native.Nat.{ℕ, _<_}
 use Rattle.float_steps.proofs.Choice.{told}
@@ -5,7 +7,7 @@ use lib.Ieee.{ofBits, binary32}
 use lib.Ieee.Bits.{ofBits-toBits}
 use Rattle.float_steps.specs.Root.{sqrtOf}
 use Rattle.float_steps.proofs.Nan.{zero-by-zero}
-use Rattle.float_steps.proofs.Radicand.{sqrt-inf, above-word, sqrt-nought, sqrt-nan}
+use Rattle.float_steps.proofs.RootEnds.{sqrt-inf, above-word, sqrt-nought, sqrt-nan}
 use borrow.Author.Needs.{needs}
 use Rattle.float_steps.proofs.root.sqrt.Statement.{statement}
 use Rattle.float_steps.proofs.root.sqrt.Tie as tie
