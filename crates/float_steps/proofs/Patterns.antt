@@ -12,7 +12,7 @@ use lib.Ieee.Fits.{down-pos, odd-fits}
 use lib.Ieee.Bits.{ofBits-toBits, toBits-ofBits, toBits-lt, ofBits-fits, nanBits-is, is-true, is-false, cond-no}
 use lib.Ieee.Exact.{HasValue, odd-sign, units-val}
 use Rattle.float_steps.specs.Words.{valueOf, wordOf}
-use Rattle.float_steps.proofs.Nan.{not-nan-word}
+use Rattle.float_steps.proofs.Nan.{not-nan-word, nan-word}
 
 -- ---- words and values undo each other; every value that an `f32` holds passes `fits`, and a word's value does
 pub value-fits : (w : ℕ) → T (fits binary32 (valueOf w))
@@ -27,6 +27,11 @@ value-of-word v f = ofBits-toBits binary32 v f
 -- a word that is no NaN pattern comes back as it was
 pub word-of-value : (w : ℕ) → w < 2 ^ 32 → w % 0x8000_0000 ≤ 0x7f80_0000 → wordOf (valueOf w) ≡ w
 word-of-value w h n = toBits-ofBits binary32 w h (subst (λ (b : Bool). T (not b)) (nanBits-is binary32 w) (not-nan-word w n))
+
+-- and one that is comes back as 7FC00000
+pub word-of-nan : (w : ℕ) → 0x7f80_0000 < w % 0x8000_0000 → wordOf (valueOf w) ≡ 0x7fc0_0000
+unfolding toBits
+word-of-nan w h = ap wordOf (nan-word w h)
 
 -- ---- what a word stands for
 pub ofBits-is : (b : ℕ) → ofBits binary32 b ≡ ofFields binary32 (leb 0x8000_0000 b) (b % 0x8000_0000 / 0x80_0000) (b % 0x80_0000)

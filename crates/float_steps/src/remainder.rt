@@ -4,8 +4,8 @@ ghost use lib.Ieee as Ieee;
 ghost use lib.Ieee.{binary32};
 ghost use Rattle.float_steps.specs.Remainder.{remEuclidOf, wrapOf};
 
-// `v % m`, which has v's sign. A v that is smaller than m is its own remainder, and the call that `%`
-// is compiled to is spared.
+// `v % m`, which has v's sign. A v between -m and m is its own remainder: the test spares the call of
+// fmodf that `%` is compiled to, where m is a constant.
 pub fn rem(v: f32, m: f32) -> f32
     ensures { λ r. ⌜ r ≡ Ieee.rem binary32 v m ⌝ }
 {
