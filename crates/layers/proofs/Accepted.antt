@@ -1,0 +1,204 @@
+-- What is known of a job's inputs that have no fault, and of their layers, for the crates above. Sides and offsets are bounded
+-- by the slack of the crate places, not by the job's own limits. Assumes nothing.
+use mathlib.Core.Path.{_≡_, refl, sym, ap, _∙_}
+use mathlib.Core.Bool.{Bool, true, false, cond, not, _||_}
+use mathlib.Core.List.{List}
+use Prim.Native.Nat.{ℕ, zero, suc, _+_, _*_, _<_, _≤_}
+use native.Mathlib.Nat.{zero-add, add-zero, add-suc, suc-add, le-of-suc-le-suc}
+use native.Mathlib.Omega.{arith}
+use lib.Dec.{eqb, ltb}
+use lib.IntN.{ℤ, pos, negsuc, negℤ}
+use lib.ListN.{length}
+use lib.Signed.{ltZ, mag}
+use borrow.Author.Tests.{eqb-true, eq-eqb, ltb-false}
+use Rattle.operators.specs.Numbers.{opOf, opFault}
+use Rattle.places.specs.Bounds.{slack, Measured}
+use Rattle.places.specs.Gravities.{lastGravity}
+use Rattle.layers.specs.declared.Layer.{Layer}
+use Rattle.layers.specs.declared.Verdict.{Verdict}
+use Rattle.layers.specs.Cells.{cellOf, natOf, outsideZ, badShape, areaOf}
+use Rattle.layers.specs.Faults.{orElse, faultIf, badOffset, badPlacing, badSource, layerFault}
+use Rattle.layers.specs.Inputs.{Inputs, verdict, badStack, badDst, rowsFault, jobFault}
+use Rattle.layers.specs.Layers.{layerAt}
+use Rattle.layers.specs.Limits.{columns, argWords, mostLayers, mostOffset, mostFlags, atOperator, atGravity, atRight, atDown, atFlags, atFirst, atWidth, atHeight, atChannels, atCount}
+use Rattle.layers.proofs.Carried.{Carried, carried}
+use Rattle.layers.proofs.Ranges.{Ranged, ranged, Channels, Shaped, shaped, both-fail, not-fails}
+
+-- a layer whose row has no fault, for the number of the source samples
+pub record GoodLayer (samples : ℕ) (l : Layer) : Type 0 where
+  pub op : Carried (l .op)
+  pub right : mag (l .right) ≤ slack
+  pub down : mag (l .down) ≤ slack
+  pub width : l .source .width ≤ slack
+  pub height : l .source .height ≤ slack
+  pub channels : Channels (l .source .channels)
+  pub held : l .source .first + l .source .width * l .source .height * l .source .channels ≤ samples
+  pub count : l .args .count ≤ argWords
+
+-- inputs without a fault
+pub record Accepted (i : Inputs) : Type 0 where
+  pub shape : Shaped (i .width) (i .height) (i .channels)
+  pub dst : length (i .dst) ≡ areaOf (i .width) (i .height) (i .channels)
+  pub count : Ranged 1 mostLayers (i .count)
+  pub table : length (i .table) ≡ natOf (i .count) * columns
+  pub args : length (i .args) ≡ natOf (i .count) * argWords
+  pub layer : (k : ℕ) → k < natOf (i .count) → GoodLayer (length (i .samples)) (layerAt (i .table) (i .args) k)
+
+-- ---- no fault among several
+
+by-first : (t : Bool) (a b : ℕ) → eqb a 0 ≡ t → cond t b a ≡ 0 → (a ≡ 0) × (b ≡ 0)
+by-first true a b e h = (eqb-true a 0 e, h)
+by-first false a b e h = let x : true ≡ false = sym (eq-eqb a 0 h) ∙ e in let y : _≡_ {A = ℕ} 0 1 = cc in absurd (omega arith)
+
+-- no fault in two is none in each
+none : (a b : ℕ) → orElse a b ≡ 0 → (a ≡ 0) × (b ≡ 0)
+none a b h = by-first (eqb a 0) a b refl h
+
+-- no fault where a test would give one is a test that fails
+passed : (t : Bool) (n : ℕ) → faultIf t (suc n) ≡ 0 → t ≡ false
+passed true n h = absurd (omega arith)
+passed false n h = refl
+
+-- ---- a row
+
+offset-most : (z : ℤ) → badOffset z ≡ false → mag z ≤ slack
+unfolding outsideZ
+offset-most (pos n) e = omega (arith, ltb-false mostOffset n (both-fail (ltZ (pos n) (negℤ (pos mostOffset))) (ltb mostOffset n) e .1))
+offset-most (negsuc n) e =
+    omega (arith, ltb-false (mag (negℤ (pos mostOffset))) n (both-fail (ltZ (negsuc n) (negℤ (pos mostOffset))) false e .0))
+
+module _ (table : List ℤ) (args : List ℕ) (samples k : ℕ) where
+  placed : badPlacing table k ≡ false → (mag (cellOf table k atRight) ≤ slack) × (mag (cellOf table k atDown) ≤ slack)
+  unfolding badPlacing
+  placed e =
+      let g = outsideZ (pos 0) (pos lastGravity) (cellOf table k atGravity) in
+      let r = badOffset (cellOf table k atRight) in
+      let d = badOffset (cellOf table k atDown) in
+      let p = both-fail (g || r) d e in
+      (offset-most (cellOf table k atRight) (both-fail g r (p .0) .1), offset-most (cellOf table k atDown) (p .1))
+
+  sourced : badSource table samples k ≡ false → Shaped (cellOf table k atWidth) (cellOf table k atHeight) (cellOf table k atChannels) × (natOf (cellOf table k atFirst) + areaOf (cellOf table k atWidth) (cellOf table k atHeight) (cellOf table k atChannels) ≤ samples)
+  unfolding badSource
+  sourced e =
+      let n = ltZ (cellOf table k atFirst) (pos 0) in
+      let s = badShape (cellOf table k atWidth) (cellOf table k atHeight) (cellOf table k atChannels) in
+      let p = both-fail (n || s) _ e in
+      (shaped _ _ _ (both-fail n s (p .0) .1), ltb-false samples _ (p .1))
+
+  pub good-layer : layerFault table samples k ≡ 0 → GoodLayer samples (layerAt table args k)
+  unfolding layerFault layerAt
+  good-layer e =
+      let a = none (opFault (opOf (cellOf table k atOperator))) _ e in
+      let b = none (faultIf (badPlacing table k) 5) _ (a .1) in
+      let f = none (faultIf (outsideZ (pos 0) (pos mostFlags) (cellOf table k atFlags)) 6) _ (b .1) in
+      let g = none (faultIf (badSource table samples k) 7) _ (f .1) in
+      let p = placed (passed (badPlacing table k) 4 (b .0)) in
+      let s = sourced (passed (badSource table samples k) 6 (g .0)) in
+      record {
+        op = carried (cellOf table k atOperator) (a .0);
+        right = p .0;
+        down = p .1;
+        width = s .0 .wide .most;
+        height = s .0 .high .most;
+        channels = s .0 .deep .kind;
+        held = s .1;
+        count = ranged 0 argWords (cellOf table k atCount) (passed (outsideZ (pos 0) (pos argWords) (cellOf table k atCount)) 7 (g .1)) .most;
+      }
+
+-- ---- the rows
+
+module _ (table : List ℤ) (samples : ℕ) where
+  -- of the first fault, where it is none
+  first-of : (t : Bool) (f k : ℕ) (v : Verdict) → eqb f 0 ≡ t → cond t v (verdict f k) .number ≡ 0 → (f ≡ 0) × (v .number ≡ 0)
+  first-of true f k v e h = (eqb-true f 0 e, h)
+  first-of false f k v e h = let x : true ≡ false = sym (eq-eqb f 0 h) ∙ e in let y : _≡_ {A = ℕ} 0 1 = cc in absurd (omega arith)
+
+  found-none : (n k : ℕ) → rowsFault table samples k (suc n) .number ≡ 0 → (layerFault table samples k ≡ 0) × (rowsFault table samples (suc k) n .number ≡ 0)
+  unfolding rowsFault
+  found-none n k e = first-of (eqb (layerFault table samples k) 0) (layerFault table samples k) k (rowsFault table samples (suc k) n) refl e
+
+  -- no fault found in n rows is none in each
+  pub rows-none : (n k j : ℕ) → rowsFault table samples k n .number ≡ 0 → j < n → layerFault table samples (k + j) ≡ 0
+  rows-none zero k j e h = absurd (omega arith)
+  rows-none (suc n) k zero e h = rw add-zero (found-none n k e .0)
+  rows-none (suc n) k (suc j) e h = rw (add-suc, ← suc-add) (rows-none n (suc k) j (found-none n k e .1) (le-of-suc-le-suc h))
+
+-- ---- a job's inputs
+
+-- a count of layers with a table and arguments as long as it says
+pub record Stacked (count : ℤ) (table args : ℕ) : Type 0 where
+  pub number : Ranged 1 mostLayers count
+  pub rows : table ≡ natOf count * columns
+  pub words : args ≡ natOf count * argWords
+
+pub stacked : (count : ℤ) (table args : ℕ) → badStack count table args ≡ false → Stacked count table args
+unfolding badStack
+stacked count table args e =
+    let o = outsideZ (pos 1) (pos mostLayers) count in
+    let t = eqb table (natOf count * columns) in
+    let a = eqb args (natOf count * argWords) in
+    let p = both-fail (o || not t) (not a) e in
+    let q = both-fail o (not t) (p .0) in
+    record {
+      number = ranged 1 mostLayers count (q .0);
+      rows = eqb-true table (natOf count * columns) (not-fails t (q .1));
+      words = eqb-true args (natOf count * argWords) (not-fails a (p .1));
+    }
+
+-- the samples of a destination in its range
+pub filled : (width height channels : ℤ) (dst : ℕ) → badDst width height channels dst ≡ false → Shaped width height channels × (dst ≡ areaOf width height channels)
+unfolding badDst
+filled width height channels dst e =
+    let p = both-fail (badShape width height channels) (not (eqb dst (areaOf width height channels))) e in (
+      shaped width height channels (p .0),
+      eqb-true dst (areaOf width height channels) (not-fails (eqb dst (areaOf width height channels)) (p .1)),
+    )
+
+-- the tests in turn, where the answer is no fault
+in-turn : (a b : Bool) (v : Verdict) → cond a (verdict 1 0) (cond b (verdict 2 0) v) .number ≡ 0 → (a ≡ false) × ((b ≡ false) × (v .number ≡ 0))
+in-turn true b v e = absurd (omega arith)
+in-turn false true v e = absurd (omega arith)
+in-turn false false v e = (refl, (refl, e))
+
+pub accepted : (i : Inputs) → jobFault i .number ≡ 0 → Accepted i
+unfolding jobFault
+accepted i e =
+    let t = in-turn
+    (badStack (i .count) (length (i .table)) (length (i .args)))
+    (badDst (i .width) (i .height) (i .channels) (length (i .dst)))
+    (rowsFault (i .table) (length (i .samples)) 0 (natOf (i .count)))
+    e
+    in
+    let s = stacked (i .count) (length (i .table)) (length (i .args)) (t .0) in
+    let f = filled (i .width) (i .height) (i .channels) (length (i .dst)) (t .1 .0) in
+    record {
+      shape = f .0;
+      dst = f .1;
+      count = s .number;
+      table = s .rows;
+      args = s .words;
+      layer = λ k h.
+          good-layer (i .table) (i .args) (length (i .samples)) k
+          (rw zero-add at (rows-none (i .table) (length (i .samples)) (natOf (i .count)) 0 k (t .1 .1) h));
+    }
+
+-- ---- what the crates above ask of accepted inputs
+
+module _ (i : Inputs) (a : Accepted i) (k : ℕ) (h : k < natOf (i .count)) where
+  -- row k lies in the table and in the arguments
+  pub row-held : k * columns + columns ≤ length (i .table)
+  row-held = omega (arith, a .table)
+
+  pub words-held : k * argWords + argWords ≤ length (i .args)
+  words-held = omega (arith, a .args)
+
+-- a good layer on a destination of accepted sides can be placed
+pub measured : (i : Inputs) (a : Accepted i) (samples : ℕ) (l : Layer) → GoodLayer samples l → Measured (natOf (i .width)) (natOf (i .height)) (l .source .width) (l .source .height) (l .right) (l .down)
+measured i a samples l g = record {
+  dst-width = a .shape .wide .most;
+  dst-height = a .shape .high .most;
+  width = g .width;
+  height = g .height;
+  offset-right = g .right;
+  offset-down = g .down;
+}

@@ -1,0 +1,49 @@
+-- An operator whose number has no fault is carried: it is neither Interpolate nor Blur. Assumes nothing.
+use mathlib.Core.Path.{_≡_, refl, sym, ap, _∙_}
+use mathlib.Core.Bool.{Bool, true, false, cond, _||_}
+use mathlib.Core.List.{List, [], _∷_}
+use Prim.Native.Nat.{ℕ, zero, suc, _<_}
+use native.Mathlib.Nat.{le-of-suc-le-suc}
+use native.Mathlib.Omega.{arith}
+use lib.Dec.{eqb, ltb}
+use lib.IntN.{ℤ, pos, negsuc}
+use lib.ListN.{length}
+use borrow.Author.Tests.{ltb-true, eqb-false}
+use Rattle.operators.specs.Numbers.{count, opOf, opFault}
+use Rattle.operators.specs.Operators.{operators, numberOf, Is, onNth, opAt}
+use Rattle.operators.specs.declared.CompositeOp.{CompositeOp}
+use Rattle.operators.specs.declared.CompositeOp.the-variants.{Over, Interpolate, Blur}
+use Rattle.operators.specs.declared.Numbered.the-variants.{Op, Unknown, Curve}
+use Rattle.operators.proofs.Places.{number-at}
+use Rattle.layers.specs.Cells.{natOf}
+use Rattle.layers.proofs.Ranges.{both-fail}
+
+pub record Carried (o : CompositeOp) : Type 0 where
+  pub not-interpolate : o ≡ Interpolate → ⊥
+  pub not-blur : o ≡ Blur → ⊥
+
+stands : (xs : List CompositeOp) (n : ℕ) → n < length xs → Is xs n (onNth Over (λ (o : CompositeOp). o) xs n)
+stands [] n h = absurd (omega arith)
+stands (x ∷ xs) zero h = refl
+stands (x ∷ xs) (suc n) h = stands xs n (le-of-suc-le-suc h)
+
+-- the operator at a place below the count has that place's number
+number-of : (n : ℕ) → n < count → n ≡ numberOf (opAt n)
+number-of n h = number-at n (opAt n) (stands operators n h)
+
+passed : (below curve : Bool) (o : CompositeOp) → opFault (cond below (cond curve Curve (Op o)) Unknown) ≡ 0 → (below ≡ true) × (curve ≡ false)
+passed true true o e = absurd (omega arith)
+passed true false o e = (refl, refl)
+passed false curve o e = absurd (omega arith)
+
+pub carried : (z : ℤ) → opFault (opOf z) ≡ 0 → Carried (opAt (natOf z))
+unfolding natOf
+carried (pos n) e =
+    let p = passed (ltb n count) (eqb n (numberOf Interpolate) || eqb n (numberOf Blur)) (opAt n) e in
+    let q = both-fail (eqb n (numberOf Interpolate)) (eqb n (numberOf Blur)) (p .1) in
+    let h = number-of n (ltb-true n count (p .0)) in
+    record {
+      not-interpolate = λ i. eqb-false n (numberOf Interpolate) (q .0) (h ∙ ap numberOf i);
+      not-blur = λ i. eqb-false n (numberOf Blur) (q .1) (h ∙ ap numberOf i);
+    }
+carried (negsuc n) e = absurd (omega arith)

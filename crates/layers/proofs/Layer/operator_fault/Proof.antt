@@ -1,0 +1,51 @@
+-- `layers::Layer::operator_fault` meets its contract, arm by arm. Assumes nothing.
+use mathlib.Core.Path.{_≡_, sym, ap, _∙_}
+use borrow.Author.Needs.{sfits-of}
+use mir.Facts.{toZ-ofZ}
+use Rattle.operators.specs.Numbers.{opOf, opFault}
+use Rattle.layers.specs.Cells.{cellOf}
+use Rattle.layers.specs.Limits.{atOperator}
+use borrow.Author.Needs.{needs}
+use Rattle.layers.proofs.Layer.operator_fault.Statement.{statement}
+use Rattle.layers.proofs.Layer.operator_fault.Tie as tie
+
+-- what the row's operator names
+named : (c : tie.After-from-number) → c .from-number .result ≡ opOf (cellOf (c .before .before .args .table .now) (c .before .before .args .k) atOperator)
+named c = c .from-number .ensures ∙ ap opOf (toZ-ofZ (sfits-of (c .before .cell .ok)) ∙ c .before .cell .ensures)
+
+cell-requires : tie.Need-cell-requires
+cell-requires c κs = search needs
+
+from-number-requires : tie.Need-from-number-requires
+from-number-requires c κs = search needs
+
+enum-told : tie.Need-enum-told
+enum-told c = search needs
+
+enum-told-2 : tie.Need-enum-told-2
+enum-told-2 c = search needs
+
+enum-told-3 : tie.Need-enum-told-3
+enum-told-3 c = search needs
+
+returns : tie.Need-returns
+returns c = ap opFault (sym (c .enum-told .given .1) ∙ named (c .before .before))
+
+returns-2 : tie.Need-returns-2
+returns-2 c = ap opFault (sym (c .enum-told2 .given .1) ∙ named (c .before .before))
+
+returns-3 : tie.Need-returns-3
+returns-3 c = ap opFault (sym (c .enum-told3 .given .1) ∙ named (c .before .before))
+
+pub operator-fault-spec : {M : Type 1} → statement M
+operator-fault-spec =
+    tie.close
+    (tie.spec
+    cell-requires
+    from-number-requires
+    enum-told
+    enum-told-2
+    enum-told-3
+    returns
+    returns-2
+    returns-3)

@@ -1,0 +1,53 @@
+-- `layers::bad_stack` meets its contract: a count in its range makes products that fit. Assumes nothing.
+use mathlib.Core.Path.{_≡_, sym, _∙_}
+use mathlib.Core.Bool.{false}
+use Prim.Native.Nat.{_*_, _≤_}
+use native.Mathlib.Omega.{arith}
+use lib.IntN.{pos}
+use mir.Facts.{toZ-ofZ}
+use borrow.Author.Tests.{eq-eqb, ne-eqb}
+use Rattle.layers.specs.Cells.{natOf, outsideZ}
+use Rattle.layers.specs.Inputs.{badStack}
+use Rattle.layers.specs.Limits.{mostLayers}
+use Rattle.layers.proofs.Ranges.{ranged}
+use borrow.Author.Needs.{needs}
+use Rattle.layers.proofs.bad_stack.Statement.{statement}
+use Rattle.layers.proofs.bad_stack.Tie as tie
+
+range : (c : tie.After-outside) → c .outside .result ≡ outsideZ (pos 1) (pos mostLayers) (c .before .args .count)
+range c = rw (toZ-ofZ (c .before .fits .count)) at (c .outside .ensures)
+
+in-range : (c : tie.Else1) → outsideZ (pos 1) (pos mostLayers) (c .before .before .args .count) ≡ false
+in-range c = sym (range (c .before)) ∙ c .if1 .left
+
+number : (c : tie.After-natural) → c .natural .result ≡ natOf (c .before .before .before .args .count)
+number c = rw (toZ-ofZ (c .before .before .before .fits .count)) at (c .natural .ensures)
+
+outside-requires : tie.Need-outside-requires
+outside-requires c κs = search needs
+
+returns : tie.Need-returns
+unfolding badStack
+returns c = rw (← range (c .before), c .if1 .taken)
+
+natural-requires : tie.Need-natural-requires
+natural-requires c κs = search needs
+
+mul-if2 : tie.Need-mul-if2
+mul-if2 c = record { fits = omega (arith, number c, ranged _ _ _ (in-range (c .before)) .most) }
+
+returns-2 : tie.Need-returns-2
+unfolding badStack
+returns-2 c = rw (in-range (c .before .before), ← number (c .before), ne-eqb _ _ (c .if2 .taken))
+
+mul-result : tie.Need-mul-result
+mul-result c = record { fits = omega (arith, number (c .before), ranged _ _ _ (in-range (c .before .before)) .most) }
+
+returns-3 : tie.Need-returns-3
+unfolding badStack
+returns-3 c = rw (in-range (c .before .before), ← number (c .before), eq-eqb _ _ (c .if2 .left))
+
+pub bad-stack-spec : {M : Type 1} → statement M
+bad-stack-spec =
+    tie.close
+    (tie.spec outside-requires returns natural-requires mul-if2 returns-2 mul-result returns-3)

@@ -1,0 +1,27 @@
+-- `layers::cells::natural_at` meets its contract. Assumes nothing.
+use mathlib.Core.Path.{_≡_, ap, _∙_}
+use lib.IntN.{ℤ}
+use borrow.Author.Needs.{sfits-of}
+use mir.Syntax.{w64}
+use mir.Val.{toZ, ofZ}
+use mir.Facts.{toZ-ofZ}
+use Rattle.layers.specs.Cells.{cellOf, natOf}
+use borrow.Author.Needs.{needs}
+use Rattle.layers.proofs.cells.natural_at.Statement.{statement}
+use Rattle.layers.proofs.cells.natural_at.Tie as tie
+
+-- the number read, as the call has it
+read : (c : tie.After-cell) → toZ w64 (ofZ w64 (c .cell .result)) ≡ cellOf (c .before .args .table .now) (c .before .args .k) (c .before .args .column)
+read c = toZ-ofZ (sfits-of (c .cell .ok)) ∙ c .cell .ensures
+
+cell-requires : tie.Need-cell-requires
+cell-requires c κs = search needs
+
+natural-requires : tie.Need-natural-requires
+natural-requires c κs = search needs
+
+returns : tie.Need-returns
+returns c = c .natural .ensures ∙ ap natOf (read (c .before))
+
+pub natural-at-spec : {M : Type 1} → statement M
+natural-at-spec = tie.close (tie.spec cell-requires natural-requires returns)

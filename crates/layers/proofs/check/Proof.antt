@@ -1,0 +1,70 @@
+-- `layers::check` meets its contract: 1 and 2, then the rows. Assumes nothing.
+use mathlib.Core.Path.{_≡_, refl, sym, ap, _∙_}
+use mathlib.Core.Bool.{false}
+use Prim.Native.Nat.{_*_, _≤_}
+use native.Mathlib.Omega.{arith}
+use lib.ListN.{length}
+use mir.Facts.{toZ-ofZ}
+use Rattle.layers.specs.Cells.{natOf}
+use Rattle.layers.specs.Inputs.{badStack, badDst, jobFault}
+use Rattle.layers.specs.Limits.{columns}
+use Rattle.layers.proofs.Accepted.{stacked}
+use borrow.Author.Needs.{needs}
+use Rattle.layers.proofs.check.Statement.{statement}
+use Rattle.layers.proofs.check.Tie as tie
+
+abbrev start : tie.After-bad-stack → tie.Start
+start c = c .before .before .before .before
+
+stack : (c : tie.After-bad-stack) → c .bad-stack .result ≡ badStack (start c .args .count) (length (start c .args .table .now)) (length (start c .args .args .now))
+stack c = rw (toZ-ofZ (start c .fits .count)) at (c .bad-stack .ensures)
+
+dst : (c : tie.After-bad-dst) → c .bad-dst .result ≡ badDst (start (c .before .before) .args .width) (start (c .before .before) .args .height) (start (c .before .before) .args .channels) (length (start (c .before .before) .args .dst .now))
+dst c =
+    let s = start (c .before .before) in
+    rw (toZ-ofZ (s .fits .width), toZ-ofZ (s .fits .height), toZ-ofZ (s .fits .channels)) at (c .bad-dst .ensures)
+
+number : (c : tie.After-natural) → c .natural .result ≡ natOf (start (c .before .before .before .before) .args .count)
+number c = rw (toZ-ofZ (start (c .before .before .before .before) .fits .count)) at (c .natural .ensures)
+
+bad-stack-requires : tie.Need-bad-stack-requires
+bad-stack-requires c κs = search needs
+
+returns : tie.Need-returns
+unfolding jobFault
+returns c = rw (← stack (c .before), c .if1 .taken)
+
+bad-dst-requires : tie.Need-bad-dst-requires
+bad-dst-requires c κs = search needs
+
+returns-2 : tie.Need-returns-2
+unfolding jobFault
+returns-2 c = rw (← stack (c .before .before .before), c .before .before .if1 .left, ← dst (c .before), c .if2 .taken)
+
+natural-requires : tie.Need-natural-requires
+natural-requires c κs = search needs
+
+rows-fault-requires : tie.Need-rows-fault-requires
+rows-fault-requires c κs =
+    let e = c .before .before .before in
+    omega (arith, number c, stacked _ _ _ (sym (stack (e .before)) ∙ e .if1 .left) .rows)
+
+returns-3 : tie.Need-returns-3
+unfolding jobFault
+returns-3 c =
+    let n = c .before in
+    let d = n .before in
+    let e = d .before .before in
+    rw (← stack (e .before), e .if1 .left, ← dst (d .before), d .if2 .left, ← number n) (c .rows-fault .ensures)
+
+pub check-spec : {M : Type 1} → statement M
+check-spec =
+    tie.close
+    (tie.spec
+    bad-stack-requires
+    returns
+    bad-dst-requires
+    returns-2
+    natural-requires
+    rows-fault-requires
+    returns-3)

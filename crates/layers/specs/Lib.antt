@@ -1,0 +1,5 @@
+pub mod Cells
+pub mod Faults
+pub mod Inputs
+pub mod Layers
+pub mod Limits

@@ -1,0 +1,320 @@
+// A layer as one value, the faults of its row and of a whole job's inputs (document 01, "Why a job is turned down", 1 to 8).
+// The contracts cite specs/Layers, specs/Faults and specs/Inputs; the limits stand in specs/Limits.
+ghost use mathlib.Core.Path.{_≡_};
+ghost use Prim.Native.Nat.{ℕ, _+_, _*_, _<_, _≤_};
+ghost use lib.ListN.{length};
+ghost use Rattle.operators.specs.Numbers.{opOf, opFault};
+ghost use Rattle.layers.specs.Cells.{cellOf, natOf};
+ghost use Rattle.layers.specs.Faults.{badPlacing, badSource, layerFault};
+ghost use Rattle.layers.specs.Inputs.{inputsOf, badStack, badDst, rowsFault, jobFault};
+ghost use Rattle.layers.specs.Layers.{flagged, maskOf, sourceAt, argOf, argsAt, layerAt};
+ghost use Rattle.layers.specs.Limits.{columns, argWords, atOperator};
+use operators::CompositeOp;
+use operators::Numbered;
+use places::Gravity;
+
+mod cells;
+
+// Which channels a layer writes.
+pub struct ChannelMask {
+    pub red: bool,
+    pub green: bool,
+    pub blue: bool,
+    pub alpha: bool,
+}
+
+// Where a layer's picture lies in the source samples, and its shape.
+pub struct Source {
+    pub first: usize,
+    pub width: usize,
+    pub height: usize,
+    pub channels: usize,
+}
+
+// A layer's arguments, as words of binary32; those past the count are not read and stand as 0.
+pub struct Args {
+    pub count: usize,
+    pub a0: u32,
+    pub a1: u32,
+    pub a2: u32,
+    pub a3: u32,
+}
+
+pub struct Layer {
+    pub op: CompositeOp,
+    pub gravity: Gravity,
+    pub right: i64,
+    pub down: i64,
+    pub tile: bool,
+    pub outside_overlay: bool,
+    pub mask: ChannelMask,
+    pub source: Source,
+    pub args: Args,
+}
+
+// The number of a job's first fault and its layer; 0 and 0 where it has none.
+pub struct Verdict {
+    pub number: u64,
+    pub layer: u64,
+}
+
+// Whether a bit, a power of two, stands in the flags.
+fn flag(flags: usize, bit: usize) -> bool
+    requires { ⌜ 0 < bit ⌝ }
+    ensures { λ r. ⌜ r ≡ flagged flags bit ⌝ }
+{
+    flags / bit % 2 == 1
+}
+
+impl ChannelMask {
+    pub const RED: usize = 4;
+
+    pub const GREEN: usize = 8;
+
+    pub const BLUE: usize = 16;
+
+    pub const ALPHA: usize = 32;
+
+    // The channels whose bits stand in a layer's flags.
+    pub fn of(flags: usize) -> ChannelMask
+        ensures { λ r. ⌜ r ≡ maskOf flags ⌝ }
+    {
+        ChannelMask {
+            red: flag(flags, Self::RED),
+            green: flag(flags, Self::GREEN),
+            blue: flag(flags, Self::BLUE),
+            alpha: flag(flags, Self::ALPHA),
+        }
+    }
+}
+
+impl Source {
+    // The source of row k.
+    fn at(table: &[i64], k: usize) -> Source
+        requires { ⌜ k * columns + columns ≤ length (now table) ⌝ }
+        ensures { λ r. ⌜ r ≡ sourceAt (now (table .entry)) k ⌝ }
+    {
+        Source {
+            first: cells::natural_at(table, k, Layer::AT_FIRST),
+            width: cells::natural_at(table, k, Layer::AT_WIDTH),
+            height: cells::natural_at(table, k, Layer::AT_HEIGHT),
+            channels: cells::natural_at(table, k, Layer::AT_CHANNELS),
+        }
+    }
+}
+
+// Argument i of layer k, 0 where it is past the count.
+fn arg(args: &[u32], k: usize, count: usize, i: usize) -> u32
+    requires { ⌜ (k * argWords + argWords ≤ length (now args)) × (i < argWords) ⌝ }
+    ensures { λ r. ⌜ r ≡ argOf (now (args .entry)) k count i ⌝ }
+{
+    if i < count {
+        return args[k * Layer::ARGS + i];
+    }
+    0
+}
+
+impl Args {
+    // The arguments of layer k, of which so many are read.
+    fn at(args: &[u32], k: usize, count: usize) -> Args
+        requires { ⌜ k * argWords + argWords ≤ length (now args) ⌝ }
+        ensures { λ r. ⌜ r ≡ argsAt (now (args .entry)) k count ⌝ }
+    {
+        Args {
+            count: count,
+            a0: arg(args, k, count, 0),
+            a1: arg(args, k, count, 1),
+            a2: arg(args, k, count, 2),
+            a3: arg(args, k, count, 3),
+        }
+    }
+}
+
+impl Layer {
+    // What the layer table and the arguments have for a layer, and a job's limits.
+    pub const COLUMNS: usize = 10;
+
+    pub const ARGS: usize = 4;
+
+    pub const MOST: i64 = 16;
+
+    pub const SIDE: i64 = 2048;
+
+    pub const OFFSET: i64 = 1000000;
+
+    pub const FLAGS: i64 = 63;
+
+    pub const TILE: usize = 1;
+
+    pub const OVERLAY: usize = 2;
+    // The columns of a layer's row.
+    pub const AT_OPERATOR: usize = 0;
+
+    pub const AT_GRAVITY: usize = 1;
+
+    pub const AT_RIGHT: usize = 2;
+
+    pub const AT_DOWN: usize = 3;
+
+    pub const AT_FLAGS: usize = 4;
+
+    pub const AT_FIRST: usize = 5;
+
+    pub const AT_WIDTH: usize = 6;
+
+    pub const AT_HEIGHT: usize = 7;
+
+    pub const AT_CHANNELS: usize = 8;
+
+    pub const AT_COUNT: usize = 9;
+
+    // Layer k, of any row: `fault` tells whether its numbers are in their ranges.
+    pub fn at(table: &[i64], args: &[u32], k: usize) -> Layer
+        requires { ⌜ (k * columns + columns ≤ length (now table)) × (k * argWords + argWords ≤ length (now args)) ⌝ }
+        ensures { λ r. ⌜ r ≡ layerAt (now (table .entry)) (now (args .entry)) k ⌝ }
+    {
+        let op = CompositeOp::at(cells::natural_at(table, k, Self::AT_OPERATOR) as u64);
+        let gravity = Gravity::from_number(cells::natural_at(table, k, Self::AT_GRAVITY) as u64);
+        let flags = cells::natural_at(table, k, Self::AT_FLAGS);
+        let mask = ChannelMask::of(flags);
+        let source = Source::at(table, k);
+        let words = Args::at(args, k, cells::natural_at(table, k, Self::AT_COUNT));
+        Layer {
+            op: op,
+            gravity: gravity,
+            right: cells::cell(table, k, Self::AT_RIGHT),
+            down: cells::cell(table, k, Self::AT_DOWN),
+            tile: flag(flags, Self::TILE),
+            outside_overlay: flag(flags, Self::OVERLAY),
+            mask: mask,
+            source: source,
+            args: words,
+        }
+    }
+
+    // 3, OPERATOR, or 4, CURVE; 0 for an operator that is carried.
+    fn operator_fault(table: &[i64], k: usize) -> u64
+        requires { ⌜ k * columns + columns ≤ length (now table) ⌝ }
+        ensures { λ r. ⌜ r ≡ opFault (opOf (cellOf (now (table .entry)) k atOperator)) ⌝ }
+    {
+        match CompositeOp::from_number(cells::cell(table, k, Self::AT_OPERATOR)) {
+            Numbered::Op(_) => 0,
+            Numbered::Unknown => 3,
+            Numbered::Curve => 4,
+        }
+    }
+
+    // Whether the gravity or an offset is out of its range.
+    fn bad_placing(table: &[i64], k: usize) -> bool
+        requires { ⌜ k * columns + columns ≤ length (now table) ⌝ }
+        ensures { λ r. ⌜ r ≡ badPlacing (now (table .entry)) k ⌝ }
+    {
+        if cells::outside_at(table, k, Self::AT_GRAVITY, 0, Gravity::LAST as i64) {
+            return true;
+        }
+        if cells::outside_at(table, k, Self::AT_RIGHT, -Self::OFFSET, Self::OFFSET) {
+            return true;
+        }
+        cells::outside_at(table, k, Self::AT_DOWN, -Self::OFFSET, Self::OFFSET)
+    }
+
+    // The number of the first fault of row k, or 0.
+    pub fn fault(table: &[i64], k: usize, samples: usize) -> u64
+        requires { ⌜ k * columns + columns ≤ length (now table) ⌝ }
+        ensures { λ r. ⌜ r ≡ layerFault (now (table .entry)) samples k ⌝ }
+    {
+        let f = Self::operator_fault(table, k);
+        if f != 0 {
+            return f;
+        }
+        if Self::bad_placing(table, k) {
+            return 5;
+        }
+        if cells::outside_at(table, k, Self::AT_FLAGS, 0, Self::FLAGS) {
+            return 6;
+        }
+        if cells::bad_source(table, k, samples) {
+            return 7;
+        }
+        if cells::outside_at(table, k, Self::AT_COUNT, 0, Self::ARGS as i64) {
+            return 8;
+        }
+        0
+    }
+}
+
+// Whether the count of layers is out of its range, or the table or the arguments are not as long as it says.
+fn bad_stack(count: i64, table: usize, args: usize) -> bool
+    ensures { λ r. ⌜ r ≡ badStack count table args ⌝ }
+{
+    if cells::outside(count, 1, Layer::MOST) {
+        return true;
+    }
+    let n = cells::natural(count);
+    if table != n * Layer::COLUMNS {
+        return true;
+    }
+    args != n * Layer::ARGS
+}
+
+// Whether the destination's shape is none, or its samples are not as many as it says.
+fn bad_dst(width: i64, height: i64, channels: i64, dst: usize) -> bool
+    ensures { λ r. ⌜ r ≡ badDst width height channels dst ⌝ }
+{
+    if cells::bad_shape(width, height, channels) {
+        return true;
+    }
+    dst != cells::area(width, height, channels)
+}
+
+// The first fault of so many rows, with its row.
+fn rows_fault(table: &[i64], layers: usize, samples: usize) -> Verdict
+    requires { ⌜ layers * columns ≤ length (now table) ⌝ }
+    ensures { λ r. ⌜ r ≡ rowsFault (now (table .entry)) samples 0 layers ⌝ }
+{
+    let mut k = 0;
+    while k < layers {
+        let f = Layer::fault(table, k, samples);
+        if f != 0 {
+            return Verdict {
+                number: f,
+                layer: k as u64,
+            };
+        }
+        k += 1;
+    }
+    Verdict {
+        number: 0,
+        layer: 0,
+    }
+}
+
+// The first fault of a job's inputs: 1 and 2, then 3 to 8 layer by layer.
+pub fn check(
+    width: i64,
+    height: i64,
+    channels: i64,
+    dst: &[u32],
+    count: i64,
+    table: &[i64],
+    args: &[u32],
+    samples: &[u32],
+) -> Verdict
+    ensures { λ r. ⌜
+        r ≡ jobFault (inputsOf width height channels (now (dst .entry)) count (now (table .entry)) (now (args .entry)) (now (samples .entry)))
+        ⌝ }
+{
+    if bad_stack(count, table.len(), args.len()) {
+        return Verdict {
+            number: 1,
+            layer: 0,
+        };
+    }
+    if bad_dst(width, height, channels, dst.len()) {
+        return Verdict {
+            number: 2,
+            layer: 0,
+        };
+    }
+    rows_fault(table, cells::natural(count), samples.len())
+}
