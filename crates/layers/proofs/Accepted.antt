@@ -1,6 +1,6 @@
 -- What is known of a job's inputs that have no fault, and of their layers, for the crates above. Sides and offsets are bounded
 -- by the slack of the crate places, not by the job's own limits. Assumes nothing.
-use mathlib.Core.Path.{_≡_, refl, sym, ap, _∙_}
+use mathlib.Core.Path.{_≡_, refl, sym, _∙_}
 use mathlib.Core.Bool.{Bool, true, false, cond, not, _||_}
 use mathlib.Core.List.{List}
 use Prim.Native.Nat.{ℕ, zero, suc, _+_, _*_, _<_, _≤_}

@@ -1,7 +1,7 @@
 // The numbers of the layer table, and what is asked of one number or of a picture's shape. The contracts cite specs/Cells.
 ghost use mathlib.Core.Path.{_≡_};
 ghost use mathlib.Core.Bool.{false};
-ghost use Prim.Native.Nat.{ℕ, _+_, _*_, _<_, _≤_};
+ghost use Prim.Native.Nat.{_+_, _*_, _<_, _≤_};
 ghost use lib.ListN.{length};
 ghost use Rattle.layers.specs.Cells.{cellOf, natOf, outsideZ, badChannels, badShape, areaOf};
 ghost use Rattle.layers.specs.Faults.{badSource};

@@ -1,11 +1,11 @@
 // A layer as one value, the faults of its row and of a whole job's inputs (document 01, "Why a job is turned down", 1 to 8).
 // The contracts cite specs/Layers, specs/Faults and specs/Inputs; the limits stand in specs/Limits.
 ghost use mathlib.Core.Path.{_≡_};
-ghost use Prim.Native.Nat.{ℕ, _+_, _*_, _<_, _≤_};
+ghost use Prim.Native.Nat.{_+_, _*_, _<_, _≤_};
 ghost use lib.ListN.{length};
 ghost use Rattle.operators.specs.Numbers.{opOf, opFault};
-ghost use Rattle.layers.specs.Cells.{cellOf, natOf};
-ghost use Rattle.layers.specs.Faults.{badPlacing, badSource, layerFault};
+ghost use Rattle.layers.specs.Cells.{cellOf};
+ghost use Rattle.layers.specs.Faults.{badPlacing, layerFault};
 ghost use Rattle.layers.specs.Inputs.{inputsOf, badStack, badDst, rowsFault, jobFault};
 ghost use Rattle.layers.specs.Layers.{flagged, maskOf, sourceAt, argOf, argsAt, layerAt};
 ghost use Rattle.layers.specs.Limits.{columns, argWords, atOperator};

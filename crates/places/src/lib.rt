@@ -1,7 +1,7 @@
 // Where a source lands on the destination: the gravities of gravity_translate.rs, `placement` of composite.rs, and the
 // source's coordinate at a destination pixel. The contracts cite specs/Gravities, specs/Placement and specs/Spots.
 ghost use mathlib.Core.Path.{_≡_};
-ghost use Prim.Native.Nat.{ℕ, _<_, _≤_};
+ghost use Prim.Native.Nat.{_<_, _≤_};
 ghost use lib.IntN.{ℤ, pos, _+ℤ_, _-ℤ_};
 ghost use lib.Signed.{quotZ, mag};
 ghost use Rattle.places.specs.Bounds.{slack, reach, Under, Measured, Reached};

@@ -1,6 +1,5 @@
 -- `layers::bad_dst` meets its contract. Assumes nothing.
 use mathlib.Core.Path.{_≡_, refl, sym, _∙_}
-use mathlib.Core.Bool.{false}
 use mir.Facts.{toZ-ofZ}
 use Rattle.layers.specs.Cells.{badShape, areaOf}
 use Rattle.layers.specs.Inputs.{badDst}

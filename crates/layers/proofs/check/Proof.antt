@@ -1,13 +1,10 @@
 -- `layers::check` meets its contract: 1 and 2, then the rows. Assumes nothing.
-use mathlib.Core.Path.{_≡_, refl, sym, ap, _∙_}
-use mathlib.Core.Bool.{false}
-use Prim.Native.Nat.{_*_, _≤_}
+use mathlib.Core.Path.{_≡_, sym, _∙_}
 use native.Mathlib.Omega.{arith}
 use lib.ListN.{length}
 use mir.Facts.{toZ-ofZ}
 use Rattle.layers.specs.Cells.{natOf}
 use Rattle.layers.specs.Inputs.{badStack, badDst, jobFault}
-use Rattle.layers.specs.Limits.{columns}
 use Rattle.layers.proofs.Accepted.{stacked}
 use borrow.Author.Needs.{needs}
 use Rattle.layers.proofs.check.Statement.{statement}

@@ -1,5 +1,4 @@
 -- `places::from_start` meets its contract: the difference of numbers within reach fits. Assumes nothing.
-use Prim.Native.Nat.{_≤_}
 use native.Mathlib.Omega.{arith}
 use borrow.Author.Needs.{needs}
 use lib.IntN.{pos}

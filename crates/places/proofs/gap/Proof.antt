@@ -1,5 +1,4 @@
 -- `places::gap` meets its contract: sides within the slack are exact as i64. Assumes nothing.
-use Prim.Native.Nat.{_≤_}
 use native.Mathlib.Omega.{arith}
 use borrow.Author.Needs.{needs}
 use lib.IntN.{pos}

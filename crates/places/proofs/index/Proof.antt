@@ -1,10 +1,9 @@
 -- `places::index` meets its contract: a row below the slack times a width within it, and a column, fit. Assumes nothing.
-use mathlib.Core.Path.{_≡_}
 use Prim.Native.Nat.{_*_, _<_, _≤_}
 use native.Mathlib.Omega.{arith}
 use native.Mathlib.Nat.{mul-le-mul, le-of-lt}
 use borrow.Author.Needs.{needs}
-use Rattle.places.specs.Bounds.{slack, Under}
+use Rattle.places.specs.Bounds.{slack}
 use Rattle.places.proofs.index.Statement.{statement}
 use Rattle.places.proofs.index.Tie as tie
 

@@ -2,7 +2,7 @@
 use mathlib.Core.Path.{_≡_, sym, _∙_}
 use mathlib.Core.Bool.{false}
 use lib.IntN.{pos}
-use borrow.Author.Tests.{eq-eqb, ne-eqb}
+use borrow.Author.Tests.{ne-eqb}
 use Rattle.operators.specs.Numbers.{opOf, opFault}
 use Rattle.layers.specs.Cells.{cellOf, outsideZ}
 use Rattle.layers.specs.Faults.{badPlacing, badSource, layerFault}

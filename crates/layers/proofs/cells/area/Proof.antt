@@ -1,6 +1,5 @@
 -- `layers::cells::area` meets its contract: the products of a shape in its range fit. Assumes nothing.
 use mathlib.Core.Path.{_≡_}
-use Prim.Native.Nat.{_*_, _≤_}
 use native.Mathlib.Omega.{arith}
 use mir.Facts.{toZ-ofZ}
 use Rattle.layers.specs.Cells.{natOf}

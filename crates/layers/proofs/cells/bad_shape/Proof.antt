@@ -1,8 +1,8 @@
 -- `layers::cells::bad_shape` meets its contract. Assumes nothing.
-use mathlib.Core.Path.{_≡_, _∙_}
+use mathlib.Core.Path.{_≡_}
 use lib.IntN.{pos}
 use mir.Facts.{toZ-ofZ}
-use Rattle.layers.specs.Cells.{outsideZ, badChannels, badShape}
+use Rattle.layers.specs.Cells.{outsideZ, badShape}
 use Rattle.layers.specs.Limits.{mostSide}
 use borrow.Author.Needs.{needs}
 use Rattle.layers.proofs.cells.bad_shape.Statement.{statement}

@@ -1,10 +1,8 @@
 -- `places::Anchor::start` meets its contract: each way's number is within reach. Assumes nothing.
 use mathlib.Core.Path.{_≡_, sym}
-use Prim.Native.Nat.{_≤_}
 use native.Mathlib.Omega.{arith}
 use borrow.Author.Needs.{needs}
-use lib.IntN.{ℤ, pos, _-ℤ_, +ℤ-idl}
-use lib.Signed.{quotZ}
+use lib.IntN.{+ℤ-idl}
 use mir.Syntax.{w64}
 use mir.Facts.{toZ-ofZ}
 use mir.Val.{toZ, ofZ}
