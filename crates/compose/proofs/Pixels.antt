@@ -1,0 +1,62 @@
+-- Where pixel j of a picture of w by h pixels lies, row by row. Assumes nothing.
+use mathlib.Core.Path.{_≡_, sym}
+use mathlib.Core.Bool.{Bool}
+use Prim.Native.Nat.{ℕ, zero, suc, _+_, _*_, _/_, _%_, _<_, _≤_}
+use native.Mathlib.Nat.{zero-mul, mul-zero, mod-lt, div-lt-iff-lt-mul, mul-comm, mul-le-mul}
+use native.Mathlib.Omega.{arith}
+use Rattle.places.specs.Bounds.{slack, Reached, Under}
+use Rattle.places.specs.Spots.{sourceIndex}
+use Rattle.places.specs.declared.Corner.{Corner}
+use Rattle.places.specs.declared.Spot.{Spot}
+use Rattle.places.specs.declared.Spot.the-variants.{At, Off}
+use Rattle.places.proofs.Spots.{index-below}
+use Rattle.compose.specs.declared.Plan.{Plan}
+use Rattle.compose.specs.Ready.{Ready, Beneath, Run}
+
+-- a picture that has a pixel has both sides
+pub some-width : (w h j : ℕ) → j < w * h → 1 ≤ w
+some-width zero h j a = absurd (omega (arith, zero-mul h))
+some-width (suc w) h j a = omega arith
+
+pub some-height : (w h j : ℕ) → j < w * h → 1 ≤ h
+some-height w zero j a = absurd (omega (arith, mul-zero w))
+some-height w (suc h) j a = omega arith
+
+-- its column and its row
+pub column-below : (w h j : ℕ) → j < w * h → j % w < w
+column-below w h j a = mod-lt j (some-width w h j a)
+
+pub row-below : (w h j : ℕ) → j < w * h → j / w < h
+row-below w h j a = div-lt-iff-lt-mul (some-width w h j a) .1 (rw (mul-comm h w) a)
+
+-- ---- what a plan that is ready has in hand at pixel j
+
+pub reached : (p : Plan) (source picture channels j : ℕ) → Ready p source → Beneath p picture channels j → Reached (p .width) (p .height) (p .corner) (j % p .dw) (j / p .dw)
+reached p source picture channels j r b = record {
+  width = r .width;
+  height = r .height;
+  corner-x = r .corner-x;
+  corner-y = r .corner-y;
+  column = omega (arith, column-below (p .dw) (p .dh) j (b .inside), b .width);
+  row = omega (arith, row-below (p .dw) (p .dh) j (b .inside), b .height);
+}
+
+-- a spot that was found lies below the source's pixels
+pub spot-held : (tile : Bool) (sw sh : ℕ) (corner : Corner) (x y : ℕ) (s : Spot) → s ≡ sourceIndex tile sw sh corner x y → Under (sw * sh) s
+spot-held tile sw sh corner x y (At n) e = index-below tile sw sh corner x y n (sym e)
+spot-held tile sw sh corner x y Off e = tt
+
+-- pixel i of a run
+pub at-run : (p : Plan) (picture channels from count i : ℕ) → Run p picture channels from count → i < count → Beneath p picture channels (from + i)
+at-run p picture channels from count i r h = record {
+  width = r .width;
+  height = r .height;
+  some = r .some;
+  most = r .most;
+  whole = r .whole;
+  inside = omega (arith, r .inside);
+}
+
+-- a run's pixels are few enough to be counted
+pub run-small : (p : Plan) (picture channels from count : ℕ) → Run p picture channels from count → from + count ≤ slack * slack
+run-small p picture channels from count r = omega (arith, r .inside, mul-le-mul (r .width) (r .height))

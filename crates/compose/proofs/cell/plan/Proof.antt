@@ -1,0 +1,36 @@
+-- `compose::cell::plan` meets its contract: each part is what its call gave. Assumes nothing.
+use native.Mathlib.Omega.{arith}
+use Rattle.places.proofs.Signed.{back}
+use Rattle.compose.specs.Compose.{planOf}
+use borrow.Author.Needs.{needs}
+use Rattle.compose.proofs.cell.plan.Statement.{statement}
+use Rattle.compose.proofs.cell.plan.Tie as tie
+
+params-requires : tie.Need-params-requires
+params-requires c κs = search needs
+
+is-map-requires : tie.Need-is-map-requires
+is-map-requires c κs = search needs
+
+number-requires : tie.Need-number-requires
+number-requires c κs = search needs
+
+placement-requires : tie.Need-placement-requires
+placement-requires c κs = search needs
+
+returns : tie.Need-returns
+unfolding planOf
+returns c =
+    let s = c .before .before .before .before .before .before .before .before in
+    rw (
+      c .before .placement .ensures,
+      c .before .before .before .before .number .ensures,
+      c .before .before .before .before .before .is-map .ensures,
+      c .before .before .before .before .before .before .params .ensures,
+      back {z = s .args .l .right} (omega (arith, s .pre .offset-right)),
+      back {z = s .args .l .down} (omega (arith, s .pre .offset-down)),
+    )
+
+pub plan-spec : {M : Type 1} → statement M
+plan-spec =
+    tie.close (tie.spec params-requires is-map-requires number-requires placement-requires returns)

@@ -1,0 +1,90 @@
+-- A layer's arguments as its operator reads them: `arg` of composite.rs (lines 518 to 524), the raw reading of Mathematics (line 1025), and what each
+-- operator asks for, with its default. Document 01: "`arg` puts its default for a missing or non-finite value. Mathematics reads raw arguments, a
+-- missing one as 0." Definitions only.
+use mathlib.Core.Bool.{Bool, cond, _&&_}
+use mathlib.Core.List.{List, [], _∷_}
+use Prim.Native.Nat.{ℕ}
+use lib.Dec.{eqb, ltb}
+use lib.ListN.{getD}
+use lib.Ieee.{Float}
+use Rattle.float_steps.specs.Notation.{_⊖_, _⊗_, _⊘_, lit, f0, f1}
+use Rattle.float_steps.specs.Order.{finiteOf}
+use Rattle.float_steps.specs.Words.{valueOf}
+use Rattle.operators.specs.Operators.{numberOf, isMap}
+use Rattle.operators.specs.declared.CompositeOp.{CompositeOp}
+use Rattle.operators.specs.declared.CompositeOp.the-variants as O
+use Rattle.layers.specs.declared.Args.{Args}
+use Rattle.pixels.specs.declared.Params.{Params}
+use Rattle.pixels.specs.Pixel.{unused}
+
+-- argument i, as a value
+abbrev pub valueAt : Args → ℕ → Float
+valueAt args i = valueOf (getD (args .a0 ∷ args .a1 ∷ args .a2 ∷ args .a3 ∷ []) i 0)
+
+-- argument i of so many, with the value v: the default where it is missing or not finite
+unfoldable pub argBy : ℕ → ℕ → Float → Float → Float
+argBy count i v default = cond (ltb i count && finiteOf v) v default
+
+-- `arg`
+abbrev pub argOr : Args → ℕ → Float → Float
+argOr args i default = argBy (args .count) i (valueAt args i) default
+
+-- as Mathematics reads it: a missing one is 0
+unfoldable pub rawBy : ℕ → ℕ → Float → Float
+rawBy count i v = cond (ltb i count) v f0
+
+abbrev pub rawArg : Args → ℕ → Float
+rawArg args i = rawBy (args .count) i (valueAt args i)
+
+abbrev pub pair : Float → Float → Params
+pair a b = record { a = a; b = b; c = f0; d = f0 }
+
+-- 100.0
+abbrev pub hundred : Float
+hundred = lit 0x42c8_0000
+
+-- ---- what an operator asks for
+
+-- Blend, lines 708 and 709: 50 %, and what a leaves of 100 %
+abbrev pub blendParams : Args → Params
+blendParams args =
+    let a = argOr args 0 (lit 0x4248_0000) ⊘ hundred in pair a (argOr args 1 (hundred ⊖ a ⊗ hundred) ⊘ hundred)
+
+-- Dissolve, lines 718 and 719: 50 % and 100 %
+abbrev pub dissolveParams : Args → Params
+dissolveParams args = pair (argOr args 0 (lit 0x4248_0000) ⊘ hundred) (argOr args 1 hundred ⊘ hundred)
+
+-- ChangeMask, line 779: the fuzz, 0
+abbrev pub maskParams : Args → Params
+maskParams args = pair (argOr args 0 f0) f0
+
+-- Threshold, lines 788 and 789: 0.05 and 1
+abbrev pub thresholdParams : Args → Params
+thresholdParams args = pair (argOr args 0 (lit 0x3d4c_cccd)) (argOr args 1 f1)
+
+-- Modulate, lines 803 and 804: 100 % twice
+abbrev pub modulateParams : Args → Params
+modulateParams args = pair (argOr args 0 hundred ⊘ hundred) (argOr args 1 hundred ⊘ hundred)
+
+-- the maps, lines 1148 to 1150: X, 20, and Y, which is X unless it is given
+abbrev pub mapParams : Args → Params
+mapParams args = let x = argOr args 0 (lit 0x41a0_0000) in pair x (argOr args 1 x)
+
+-- Mathematics, lines 1025 and 1026
+abbrev pub rawParams : Args → Params
+rawParams args = record { a = rawArg args 0; b = rawArg args 1; c = rawArg args 2; d = rawArg args 3 }
+
+-- one operator is another
+abbrev pub same : CompositeOp → CompositeOp → Bool
+same o p = eqb (numberOf o) (numberOf p)
+
+unfoldable pub paramsOf : CompositeOp → Args → Params
+paramsOf op args =
+    cond (same op O.Blend) (blendParams args)
+    (cond (same op O.Dissolve) (dissolveParams args)
+    (cond (same op O.ChangeMask) (maskParams args)
+    (cond (same op O.Threshold) (thresholdParams args)
+    (cond (same op O.Modulate) (modulateParams args)
+    (cond (same op O.Mathematics) (rawParams args)
+    (cond (isMap op) (mapParams args)
+    unused))))))

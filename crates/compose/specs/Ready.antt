@@ -1,0 +1,34 @@
+-- What composing with a plan asks: bounds that an accepted layer meets. They are slack, as those of places are.
+use mathlib.Core.Path.{_≡_}
+use Prim.Native.Nat.{ℕ, _+_, _*_, _<_, _≤_}
+use lib.Signed.{mag}
+use Rattle.places.specs.Bounds.{slack, reach}
+use Rattle.compose.specs.declared.Plan.{Plan}
+
+-- the plan's source, whose samples are so many, lies within reach of the destination
+pub record Ready (p : Plan) (source : ℕ) : Type 0 where
+  pub width : p .width ≤ slack
+  pub height : p .height ≤ slack
+  pub corner-x : mag (p .corner .x) ≤ reach
+  pub corner-y : mag (p .corner .y) ≤ reach
+  pub some : 1 ≤ p .channels
+  pub most : p .channels ≤ 4
+  pub whole : source ≡ p .width * p .height * p .channels
+
+-- pixel j of the picture beneath, whose words are so many, of so many channels
+pub record Beneath (p : Plan) (picture channels j : ℕ) : Type 0 where
+  pub width : p .dw ≤ slack
+  pub height : p .dh ≤ slack
+  pub some : 1 ≤ channels
+  pub most : channels ≤ 4
+  pub whole : picture ≡ p .dw * p .dh * channels
+  pub inside : j < p .dw * p .dh
+
+-- a run of count pixels from pixel `from` on
+pub record Run (p : Plan) (picture channels from count : ℕ) : Type 0 where
+  pub width : p .dw ≤ slack
+  pub height : p .dh ≤ slack
+  pub some : 1 ≤ channels
+  pub most : channels ≤ 4
+  pub whole : picture ≡ p .dw * p .dh * channels
+  pub inside : from + count ≤ p .dw * p .dh

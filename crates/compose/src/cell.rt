@@ -1,0 +1,165 @@
+// One pixel of the result. Everything that a layer decides once stands in its plan.
+ghost use mathlib.Core.Path.{_≡_};
+ghost use Prim.Native.Nat.{_+_, _*_, _<_, _≤_};
+ghost use lib.ListN.{length};
+ghost use lib.Ieee.{Float};
+ghost use Rattle.pictures.specs.Widen.{rgbaAt, valuesOf};
+ghost use Rattle.places.specs.Bounds.{slack, Measured, Under};
+ghost use Rattle.compose.specs.Compose.{planOf, sourcePixel, mapCoordinate, mapped, resultOf, writtenWord, writtenOf, writes, composedBy};
+ghost use Rattle.compose.specs.Ready.{Ready, Beneath};
+use crate::Plan;
+use crate::arguments;
+use float_steps::words::word;
+use layers::ChannelMask;
+use layers::Layer;
+use operators::CompositeOp;
+use pictures::Rgba;
+use pictures::Words;
+use pictures::bilinear::bilinear;
+use pictures::widen::rgba_at;
+use pictures::widen::values;
+use pixels::pixel;
+use places::Spot;
+use places::placement;
+use places::source_index;
+
+// The layer's plan on a destination of dw by dh pixels.
+pub fn plan(l: Layer, dw: usize, dh: usize) -> Plan
+    requires { ⌜ Measured dw dh (l .source .width) (l .source .height) (l .right) (l .down) ⌝ }
+    ensures { λ r. ⌜ r ≡ planOf l dw dh ⌝ }
+{
+    let op = l.op;
+    let source = l.source;
+    let params = arguments::params(op, l.args);
+    let map = op.is_map();
+    let displace = op.number() == CompositeOp::DISPLACE;
+    let gravity = l.gravity;
+    let corner = placement(
+        gravity,
+        dw,
+        dh,
+        source.width,
+        source.height,
+        l.right,
+        l.down,
+    );
+    let mask = l.mask;
+    Plan {
+        op,
+        params,
+        map,
+        displace,
+        corner,
+        tile: l.tile,
+        overlay: l.outside_overlay,
+        mask,
+        width: source.width,
+        height: source.height,
+        channels: source.channels,
+        dw,
+        dh,
+    }
+}
+
+// The source's pixel at a spot; off the source (0, 0, 0, 0).
+fn source_pixel(p: Plan, source: &[u32], spot: Spot) -> Rgba
+    requires { ⌜ (Ready p (length (now source))) × (Under (p .width * p .height) spot) ⌝ }
+    ensures { λ r. ⌜ r ≡ sourcePixel p (now (source .entry)) spot ⌝ }
+{
+    match spot {
+        Spot::At(n) => values(rgba_at(source, p.channels, n)),
+        Spot::Off => Rgba {
+            r: 0.0,
+            g: 0.0,
+            b: 0.0,
+            a: 0.0,
+        },
+    }
+}
+
+// Where a map reads the destination, in one coordinate.
+fn map_coordinate(displace: bool, at: usize, v: f32, by: f32) -> f32
+    requires { ⌜ at ≤ slack ⌝ }
+    ensures { λ r. ⌜ r ≡ mapCoordinate displace at v by ⌝ }
+{
+    if displace {
+        return (at as f32) + (v - 0.5) * by;
+    }
+    v * by
+}
+
+// A map's result: the destination, read where the source says.
+fn map_pixel(p: Plan, picture: &[u32], channels: usize, s: Rgba, j: usize) -> Rgba
+    requires { ⌜ Beneath p (length (now picture)) channels j ⌝ }
+    ensures { λ r. ⌜ r ≡ mapped p (λ i. valuesOf (rgbaAt (now (picture .entry)) channels i)) s j ⌝ }
+{
+    let dw = p.dw;
+    let x = map_coordinate(p.displace, j % dw, s.r, p.params.a);
+    let y = map_coordinate(p.displace, j / dw, s.g, p.params.b);
+    bilinear(picture, channels, dw, p.dh, x, y)
+}
+
+// The operator's result, of the source's pixel s and the destination's own pixel d.
+fn result(p: Plan, picture: &[u32], channels: usize, s: Rgba, d: Rgba, j: usize) -> Rgba
+    requires { ⌜ Beneath p (length (now picture)) channels j ⌝ }
+    ensures { λ r. ⌜ r ≡ resultOf p (λ i. valuesOf (rgbaAt (now (picture .entry)) channels i)) s d j ⌝ }
+{
+    if p.map {
+        return map_pixel(p, picture, channels, s, j);
+    }
+    let op = p.op;
+    pixel(op, p.params, s, d)
+}
+
+// A channel: written where its flag is on, else kept with all its bits.
+fn written_word(on: bool, v: f32, kept: u32) -> u32
+    ensures { λ r. ⌜ r ≡ writtenWord on v kept ⌝ }
+{
+    if on {
+        return word(v);
+    }
+    kept
+}
+
+fn written(m: ChannelMask, v: Rgba, kept: Words) -> Words
+    ensures { λ r. ⌜ r ≡ writtenOf m v kept ⌝ }
+{
+    Words {
+        r: written_word(m.red, v.r, kept.r),
+        g: written_word(m.green, v.g, kept.g),
+        b: written_word(m.blue, v.b, kept.b),
+        a: written_word(m.alpha, v.a, kept.a),
+    }
+}
+
+// Whether the layer writes a pixel: it lies on the source, or overlay is on.
+fn writing(p: Plan, spot: Spot) -> bool
+    ensures { λ r. ⌜ r ≡ writes p spot ⌝ }
+{
+    match spot {
+        Spot::At(_) => true,
+        Spot::Off => p.overlay,
+    }
+}
+
+// Pixel j of the result, from its own words beneath and, for a map, the whole picture beneath.
+pub fn composed(
+    p: Plan,
+    source: &[u32],
+    picture: &[u32],
+    channels: usize,
+    own: Words,
+    j: usize,
+) -> Words
+    requires { ⌜ (Ready p (length (now source))) × (Beneath p (length (now picture)) channels j) ⌝ }
+    ensures { λ r. ⌜ r ≡ composedBy p (now (source .entry)) (λ i. valuesOf (rgbaAt (now (picture .entry)) channels i)) own j ⌝ }
+{
+    let dw = p.dw;
+    let spot = source_index(p.tile, p.width, p.height, p.corner, j % dw, j / dw);
+    if writing(p, spot) {
+        let s = source_pixel(p, source, spot);
+        let v = result(p, picture, channels, s, values(own), j);
+        return written(p.mask, v, own);
+    }
+    own
+}

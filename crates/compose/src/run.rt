@@ -1,0 +1,47 @@
+// Runs of pixels: the one loop of composition. The single composition and the job both come here, so that the operators' match has one call site.
+ghost use mathlib.Core.Path.{_≡_};
+ghost use Prim.Native.Nat.{_+_, _*_, _<_, _≤_};
+ghost use lib.ListN.{length};
+ghost use Rattle.pictures.specs.Widen.{rgbaAt, valuesOf};
+ghost use Rattle.pictures.specs.FlatWords.{filled};
+ghost use Rattle.compose.specs.Compose.{composedBy};
+ghost use Rattle.compose.specs.Ready.{Ready, Run};
+use crate::Plan;
+use crate::cell::composed;
+use pictures::flat::put;
+use pictures::widen::rgba_at;
+
+// Pixels from .. from + count of the result, at the front of out. Their own pixels beneath are the first of `beneath`; a map reads the whole picture.
+pub fn run(
+    p: Plan,
+    source: &[u32],
+    picture: &[u32],
+    channels: usize,
+    beneath: &[u32],
+    from: usize,
+    count: usize,
+    out: &mut [u32],
+)
+    requires { ⌜ (Ready p (length (now source))) × (Run p (length (now picture)) channels from count) × (4 * count ≤ length (now beneath)) × (4 * count ≤ length (now out)) ⌝ }
+    ensures { λ _. ⌜ now (out .exit) ≡ filled (λ i. composedBy p (now (source .entry)) (λ k. valuesOf (rgbaAt (now (picture .entry)) channels k)) (rgbaAt (now (beneath .entry)) 4 i) (from + i)) count (now (out .entry)) ⌝ }
+{
+    let mut i = 0;
+    while i < count {
+        let own = rgba_at(beneath, 4, i);
+        put(
+            out,
+            i,
+            composed(p, source, picture, channels, own, from + i),
+        );
+        i += 1;
+    }
+}
+
+// The same on a picture of four channels, whose own pixels are those beneath.
+pub fn span(p: Plan, source: &[u32], picture: &[u32], from: usize, count: usize, out: &mut [u32])
+    requires { ⌜ (Ready p (length (now source))) × (Run p (length (now picture)) 4 from count) × (4 * count ≤ length (now out)) ⌝ }
+    ensures { λ _. ⌜ now (out .exit) ≡ filled (λ i. composedBy p (now (source .entry)) (λ k. valuesOf (rgbaAt (now (picture .entry)) 4 k)) (rgbaAt (now (picture .entry)) 4 (from + i)) (from + i)) count (now (out .entry)) ⌝ }
+{
+    let at = 4 * from;
+    run(p, source, picture, 4, &picture[at..], from, count, out);
+}
