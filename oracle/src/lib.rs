@@ -1,0 +1,13 @@
+//! The Rust compositor as an oracle: composite.rs, deep.rs, exec.rs and gravity_translate.rs compiled
+//! unchanged, a model of document 01's refusals and jobs above them, and what compares a port with both.
+
+mod stubs;
+include!(concat!(env!("OUT_DIR"), "/modules.rs"));
+// The Rust files look for these at the root of their crate.
+pub use stubs::extent::Extent;
+pub use stubs::*;
+
+pub mod reference;
+pub mod request;
+pub mod lines;
+pub mod model;
