@@ -11,3 +11,8 @@ pub mod reference;
 pub mod request;
 pub mod lines;
 pub mod model;
+pub mod restated;
+pub mod random;
+pub mod shrink;
+pub mod compare;
+pub mod ours;

@@ -1,0 +1,245 @@
+//! The proved library behind its C interface, as a side of a comparison. Built with TRAY_LIB in the
+//! environment (build.rs) this links libtray.a; without it there is no library, and `linked` answers none.
+//!
+//! Every list is lent in the middle of a larger one. After each call the words around it, and every list that
+//! is lent for reading, must have the bits that they had: otherwise the comparison stops there.
+
+use crate::request::Side;
+
+/// The library, if this build has it.
+pub fn linked() -> Option<Box<dyn Side>> {
+    #[cfg(tray)]
+    return Some(Box::new(library::Ours));
+    #[cfg(not(tray))]
+    None
+}
+
+#[cfg(tray)]
+mod library {
+    use crate::request::{Answer, Job, Memory, Side};
+
+    unsafe extern "C" {
+        fn tray_from_name(name: *const u8, length: usize) -> u64;
+        fn tray_compose(
+            width: i64,
+            height: i64,
+            channels: i64,
+            dst: *const u32,
+            dst_length: usize,
+            table: *const i64,
+            table_length: usize,
+            args: *const u32,
+            args_length: usize,
+            samples: *const u32,
+            samples_length: usize,
+            out: *mut u32,
+            out_length: usize,
+        ) -> u64;
+        fn tray_narrow(wanted: i64, input: *const u32, input_length: usize, out: *mut u32, out_length: usize) -> u64;
+        fn tray_narrow_bytes(
+            wanted: i64,
+            input: *const u32,
+            input_length: usize,
+            out: *mut u8,
+            out_length: usize,
+        ) -> u64;
+        fn tray_job(
+            width: i64,
+            height: i64,
+            channels: i64,
+            dst: *const u32,
+            dst_length: usize,
+            layers: i64,
+            table: *const i64,
+            table_length: usize,
+            args: *const u32,
+            args_length: usize,
+            samples: *const u32,
+            samples_length: usize,
+            allowance: u64,
+            work0: *mut u32,
+            work0_length: usize,
+            work1: *mut u32,
+            work1_length: usize,
+            mark: *mut u64,
+            mark_length: usize,
+            answer: *mut u64,
+            answer_length: usize,
+        ) -> u64;
+    }
+
+    /// How the library says that a name is unknown: any number that is no operator's.
+    fn operator(answer: u64) -> Option<u64> {
+        (answer < 70).then_some(answer)
+    }
+
+    /// What `tray_job` writes: number, layer, stores, finished.
+    fn answer(numbers: &[u64]) -> Answer {
+        Answer { number: numbers[0], layer: numbers[1], stores: numbers[2], finished: numbers[3] != 0 }
+    }
+
+    /// Elements on each side of a lent list.
+    const MARGIN: usize = 16;
+
+    /// A list in the middle of a larger one.
+    struct Lent<T> {
+        all: Vec<T>,
+        length: usize,
+        around: T,
+    }
+
+    impl<T: Copy + PartialEq + std::fmt::Debug> Lent<T> {
+        fn new(list: &[T], around: T) -> Self {
+            let mut all = vec![around; list.len() + 2 * MARGIN];
+            all[MARGIN..MARGIN + list.len()].copy_from_slice(list);
+            Lent { all, length: list.len(), around }
+        }
+
+        fn shared(&self) -> *const T {
+            self.all[MARGIN..].as_ptr()
+        }
+
+        fn unique(&mut self) -> *mut T {
+            self.all[MARGIN..].as_mut_ptr()
+        }
+
+        fn list(&self) -> &[T] {
+            &self.all[MARGIN..MARGIN + self.length]
+        }
+
+        /// Panics where the elements around the list have changed.
+        fn around_kept(&self) -> &Self {
+            let (before, rest) = self.all.split_at(MARGIN);
+            let after = &rest[self.length..];
+            let kept = before.iter().chain(after).all(|n| *n == self.around);
+            assert!(kept, "the library wrote outside a list of {} that it was lent", self.length);
+            self
+        }
+
+        /// Panics where the list, or what is around it, has changed.
+        fn kept(&self, list: &[T]) {
+            assert!(self.around_kept().list() == list, "the library wrote into a list that it was lent to read");
+        }
+    }
+
+    const WORD: u32 = 0x5a5a_5a5a;
+    const LONG: u64 = 0x5a5a_5a5a_5a5a_5a5a;
+
+    /// The lists of a job's inputs, lent.
+    struct Inputs {
+        dst: Lent<u32>,
+        table: Lent<i64>,
+        args: Lent<u32>,
+        samples: Lent<u32>,
+    }
+
+    impl Inputs {
+        fn new(job: &Job) -> Self {
+            Inputs {
+                dst: Lent::new(&job.dst, WORD),
+                table: Lent::new(&job.table, LONG as i64),
+                args: Lent::new(&job.args, WORD),
+                samples: Lent::new(&job.samples, WORD),
+            }
+        }
+
+        fn kept(&self, job: &Job) {
+            self.dst.kept(&job.dst);
+            self.table.kept(&job.table);
+            self.args.kept(&job.args);
+            self.samples.kept(&job.samples);
+        }
+    }
+
+    pub struct Ours;
+
+    impl Side for Ours {
+        fn from_name(&self, name: &[u8]) -> Option<u64> {
+            let lent = Lent::new(name, 0x5a);
+            let number = unsafe { tray_from_name(lent.shared(), name.len()) };
+            lent.kept(name);
+            operator(number)
+        }
+
+        fn compose(&self, job: &Job, out: &mut [u32]) -> u64 {
+            let inputs = Inputs::new(job);
+            let mut written = Lent::new(out, WORD);
+            let number = unsafe {
+                tray_compose(
+                    job.width,
+                    job.height,
+                    job.channels,
+                    inputs.dst.shared(),
+                    job.dst.len(),
+                    inputs.table.shared(),
+                    job.table.len(),
+                    inputs.args.shared(),
+                    job.args.len(),
+                    inputs.samples.shared(),
+                    job.samples.len(),
+                    written.unique(),
+                    out.len(),
+                )
+            };
+            inputs.kept(job);
+            out.copy_from_slice(written.around_kept().list());
+            number
+        }
+
+        fn narrow(&self, wanted: i64, input: &[u32], out: &mut [u32]) -> u64 {
+            let lent = Lent::new(input, WORD);
+            let mut written = Lent::new(out, WORD);
+            let number = unsafe { tray_narrow(wanted, lent.shared(), input.len(), written.unique(), out.len()) };
+            lent.kept(input);
+            out.copy_from_slice(written.around_kept().list());
+            number
+        }
+
+        fn narrow_bytes(&self, wanted: i64, input: &[u32], out: &mut [u8]) -> u64 {
+            let lent = Lent::new(input, WORD);
+            let mut written = Lent::new(out, 0x5a);
+            let number = unsafe { tray_narrow_bytes(wanted, lent.shared(), input.len(), written.unique(), out.len()) };
+            lent.kept(input);
+            out.copy_from_slice(written.around_kept().list());
+            number
+        }
+
+        fn call(&self, job: &Job, allowance: u64, memory: &mut Memory) -> Answer {
+            let inputs = Inputs::new(job);
+            let [mut work0, mut work1] = [0, 1].map(|w| Lent::new(&memory.work[w], WORD));
+            let mut mark = Lent::new(&memory.mark, LONG);
+            let mut told = Lent::new(&[LONG; 4], LONG);
+            let number = unsafe {
+                tray_job(
+                    job.width,
+                    job.height,
+                    job.channels,
+                    inputs.dst.shared(),
+                    job.dst.len(),
+                    job.layers,
+                    inputs.table.shared(),
+                    job.table.len(),
+                    inputs.args.shared(),
+                    job.args.len(),
+                    inputs.samples.shared(),
+                    job.samples.len(),
+                    allowance,
+                    work0.unique(),
+                    memory.work[0].len(),
+                    work1.unique(),
+                    memory.work[1].len(),
+                    mark.unique(),
+                    memory.mark.len(),
+                    told.unique(),
+                    4,
+                )
+            };
+            inputs.kept(job);
+            memory.work = [&work0, &work1].map(|work| work.around_kept().list().to_vec());
+            memory.mark = mark.around_kept().list().to_vec();
+            let answer = answer(told.around_kept().list());
+            assert_eq!(number, answer.number, "the library returns another number than it writes");
+            answer
+        }
+    }
+}

@@ -1,0 +1,401 @@
+//! Random requests: jobs, compositions, narrowings and names, with the values that are likely to matter.
+
+use crate::lines::Request;
+use crate::reference;
+use crate::request::{ARGUMENTS, COLUMNS, Job, Memory};
+
+/// Words worth trying: zeros, ones and halves, what lies beside them, subnormals, infinities, NaN patterns.
+pub const SPECIAL: [u32; 32] = [
+    0x0000_0000, // 0
+    0x8000_0000, // -0
+    0x3f80_0000, // 1
+    0xbf80_0000, // -1
+    0x3f00_0000, // 0.5
+    0xbf00_0000, // -0.5
+    0x3e80_0000, // 0.25
+    0x3f40_0000, // 0.75
+    0x4000_0000, // 2
+    0x3fa0_0000, // 1.25
+    0x3eff_ffff, // just below 0.5
+    0x3f00_0001, // just above 0.5
+    0x3f7f_ffff, // just below 1
+    0x3f80_0001, // just above 1
+    0x0000_0001, // the smallest subnormal
+    0x8000_0001, // its negative
+    0x007f_ffff, // the largest subnormal
+    0x0080_0000, // the smallest normal
+    0x2edb_e6ff, // 1e-10
+    0xaedb_e6ff, // -1e-10
+    0x7f7f_ffff, // the largest finite
+    0xff7f_ffff, // its negative
+    0x7f80_0000, // infinity
+    0xff80_0000, // -infinity
+    0x7fc0_0000, // the NaN that is stored
+    0x7fc1_2345, // a NaN with a payload
+    0xffc0_0001, // a negative NaN with a payload
+    0x7f80_0001, // a signalling NaN
+    0x3eaa_aaab, // 1/3
+    0x3d50_d0d1, // 13/255
+    0x3586_37bd, // 1e-6
+    0x3d4c_cccd, // 0.05
+];
+
+/// The carried operators.
+pub fn carried() -> impl Iterator<Item = i64> {
+    (0..70).filter(|op| ![43, 67].contains(op))
+}
+
+pub struct Random(u64);
+
+/// How the words of a picture are drawn.
+#[derive(Clone, Copy)]
+enum Flavour {
+    Coarse,
+    Bytes,
+    Unit,
+    Around,
+    Special,
+    Any,
+    Mixed,
+}
+
+impl Random {
+    pub fn new(seed: u64) -> Self {
+        Random(seed.wrapping_mul(0x9e37_79b9_7f4a_7c15) ^ 0x1234_5678_9abc_def0)
+    }
+
+    pub fn next(&mut self) -> u64 {
+        self.0 = self.0.wrapping_add(0x9e37_79b9_7f4a_7c15);
+        let mut z = self.0;
+        z = (z ^ (z >> 30)).wrapping_mul(0xbf58_476d_1ce4_e5b9);
+        z = (z ^ (z >> 27)).wrapping_mul(0x94d0_49bb_1331_11eb);
+        z ^ (z >> 31)
+    }
+
+    pub fn below(&mut self, n: u64) -> u64 {
+        self.next() % n
+    }
+
+    pub fn one_in(&mut self, n: u64) -> bool {
+        self.below(n) == 0
+    }
+
+    pub fn pick<T: Copy>(&mut self, list: &[T]) -> T {
+        list[self.below(list.len() as u64) as usize]
+    }
+
+    fn unit(&mut self) -> f32 {
+        self.below(1 << 24) as f32 / (1 << 24) as f32
+    }
+
+    fn flavour(&mut self) -> Flavour {
+        self.pick(&[
+            Flavour::Coarse,
+            Flavour::Bytes,
+            Flavour::Unit,
+            Flavour::Unit,
+            Flavour::Around,
+            Flavour::Special,
+            Flavour::Any,
+            Flavour::Mixed,
+        ])
+    }
+
+    fn drawn(&mut self, flavour: Flavour) -> u32 {
+        let value = match flavour {
+            Flavour::Coarse => self.below(9) as f32 / 8.0,
+            Flavour::Bytes => self.below(256) as f32 / 255.0,
+            Flavour::Unit => self.unit(),
+            Flavour::Around => self.unit() * 5.0 - 2.0,
+            Flavour::Special => return self.pick(&SPECIAL),
+            Flavour::Any => return self.next() as u32,
+            Flavour::Mixed => {
+                let other = self.flavour();
+                return match other {
+                    Flavour::Mixed => self.pick(&SPECIAL),
+                    other => self.drawn(other),
+                };
+            }
+        };
+        value.to_bits()
+    }
+
+    /// A list of words of one flavour.
+    pub fn words(&mut self, count: usize) -> Vec<u32> {
+        let flavour = self.flavour();
+        (0..count).map(|_| self.drawn(flavour)).collect()
+    }
+
+    fn side(&mut self, most: u64) -> i64 {
+        if self.one_in(40) { 0 } else { 1 + self.below(most) as i64 }
+    }
+
+    fn argument(&mut self, operator: i64) -> u32 {
+        let scale = match operator {
+            45 | 46 | 69 => 150.0,
+            65 | 66 => 12.0,
+            _ => 2.0,
+        };
+        match self.below(6) {
+            0 => self.pick(&SPECIAL),
+            1 => ((self.below(41) as f32 - 20.0) * scale / 20.0).to_bits(),
+            _ => ((self.unit() * 2.0 - 0.5) * scale).to_bits(),
+        }
+    }
+
+    /// A row and its arguments for an operator, with a source in a store of samples that it may lengthen.
+    fn layer(&mut self, operator: i64, most: u64, job: &mut Job) {
+        let channels = self.pick(&[1, 3, 4, 4]);
+        let (width, height) = (self.side(most), self.side(most));
+        let size = (width * height * channels) as usize;
+        // A new source behind the others, or one that overlaps what is there.
+        let start = if self.one_in(4) && job.samples.len() >= size {
+            self.below((job.samples.len() - size) as u64 + 1) as usize
+        } else {
+            let gap = self.below(3) as usize;
+            let more = self.words(gap + size);
+            job.samples.extend(more);
+            job.samples.len() - size
+        };
+        let offset = |r: &mut Random| match r.below(12) {
+            0 => r.pick(&[-1_000_000, 1_000_000, 999_999, -999_999]),
+            1..=5 => 0,
+            _ => r.below(2 * most + 3) as i64 - most as i64 - 1,
+        };
+        let flags = if self.one_in(2) { 62 } else { self.below(64) as i64 };
+        let count = self.below(5);
+        let (right, down) = (offset(self), offset(self));
+        let gravity = if self.one_in(2) { 0 } else { self.below(10) as i64 };
+        let start = start as i64;
+        job.table.extend([operator, gravity, right, down, flags, start, width, height, channels, count as i64]);
+        for _ in 0..ARGUMENTS {
+            let argument = self.argument(operator);
+            job.args.push(argument);
+        }
+    }
+
+    /// The source of the last layer made like the destination in part, so that equal values meet.
+    fn alike(&mut self, job: &mut Job) {
+        let n = job.dst.len().min(job.samples.len());
+        if n > 0 && self.one_in(4) {
+            for _ in 0..1 + self.below(n as u64) {
+                let (i, j) = (self.below(n as u64) as usize, self.below(n as u64) as usize);
+                job.samples[i] = job.dst[j];
+            }
+        }
+    }
+
+    /// A job without a fault.
+    pub fn job(&mut self, layers: u64, most: u64, operator: Option<i64>) -> Job {
+        let operators: Vec<i64> = carried().collect();
+        let channels = self.pick(&[1, 3, 4, 4, 4]);
+        let (width, height) = (self.side(most), self.side(most));
+        let dst = self.words((width * height * channels) as usize);
+        let mut job = Job { width, height, channels, dst, layers: layers as i64, ..Job::default() };
+        for _ in 0..layers {
+            let operator = operator.unwrap_or_else(|| self.pick(&operators));
+            self.layer(operator, most, &mut job);
+        }
+        self.alike(&mut job);
+        job
+    }
+
+    /// A number at or past the limits of document 01's table.
+    fn edge(&mut self) -> i64 {
+        self.pick(&[
+            -1,
+            0,
+            1,
+            2,
+            3,
+            4,
+            5,
+            9,
+            10,
+            15,
+            16,
+            17,
+            43,
+            63,
+            64,
+            67,
+            69,
+            70,
+            2048,
+            2049,
+            1_000_000,
+            1_000_001,
+            -1_000_000,
+            -1_000_001,
+            i64::MAX,
+            i64::MIN,
+            i64::MAX - 3,
+        ])
+    }
+
+    fn resize<T: Copy>(&mut self, list: &mut Vec<T>, value: T) {
+        match self.below(4) {
+            0 if !list.is_empty() => {
+                list.pop();
+            }
+            1 => list.clear(),
+            2 => list.extend(std::iter::repeat_n(value, list.len())),
+            _ => list.push(value),
+        }
+    }
+
+    /// One thing of a job's inputs changed, to something that is perhaps a fault.
+    pub fn spoil(&mut self, job: &mut Job) {
+        match self.below(10) {
+            0 => job.layers = self.edge(),
+            1 => job.width = self.edge(),
+            2 => job.height = self.edge(),
+            3 => job.channels = self.edge(),
+            4 => self.resize(&mut job.table, 0),
+            5 => self.resize(&mut job.args, 0),
+            6 => self.resize(&mut job.dst, 0),
+            _ if job.table.is_empty() => job.layers = 0,
+            _ => {
+                let layer = self.below((job.table.len().div_ceil(COLUMNS)) as u64) as usize;
+                let column = layer * COLUMNS + self.below(COLUMNS as u64) as usize;
+                if column < job.table.len() {
+                    job.table[column] = self.edge();
+                }
+            }
+        }
+    }
+
+    /// Work buffers of the right length with any content, and a mark.
+    pub fn memory(&mut self, job: &Job, mark: u64) -> Memory {
+        let size = (job.width * job.height * 4).clamp(0, 1 << 20) as usize;
+        Memory { work: [self.words(size), self.words(size)], mark: vec![mark] }
+    }
+
+    fn spoil_memory(&mut self, memory: &mut Memory) {
+        match self.below(4) {
+            0 => self.resize(&mut memory.work[0], 0),
+            1 => self.resize(&mut memory.work[1], 0),
+            2 => self.resize(&mut memory.mark, 0),
+            _ => memory.mark = vec![self.pick(&[u64::MAX, 1 << 63, 1 << 32, 100_000])],
+        }
+    }
+
+    pub fn allowance(&mut self, total: u64) -> u64 {
+        match self.below(12) {
+            0 => 0,
+            1 => self.below(5),
+            2 => u64::MAX,
+            3 => total,
+            4 => 1 << 32,
+            5 => 5 * (1 + self.below(8)),
+            _ => self.below(total / 3 + 8),
+        }
+    }
+
+    pub fn composition(&mut self) -> Request {
+        let most = self.pick(&[1, 2, 3, 4, 6]);
+        let mut job = self.job(1, most, None);
+        let faulty = self.one_in(12);
+        let mut length = (job.width * job.height * 4) as usize;
+        if faulty {
+            for _ in 0..1 + self.below(3) {
+                self.spoil(&mut job);
+            }
+            if self.one_in(4) {
+                length = length.wrapping_add(self.pick(&[1, 4, usize::MAX])).min(1 << 16);
+            }
+        }
+        Request::Compose { job, length }
+    }
+
+    /// The calls of one job, in several requests: each finds the memory that the last one left, refused calls
+    /// with other inputs stand among them. `answer` is asked for the memory after each request.
+    pub fn job_requests(&mut self, mut answer: impl FnMut(Request) -> Memory) {
+        let layers = if self.one_in(10) { 1 + self.below(16) } else { 2 + self.below(4) };
+        let most = self.pick(&[1, 2, 3, 4]);
+        let job = self.job(layers, most, None);
+        let pixels = (job.width * job.height) as u64;
+        let (end, total) = ((layers + 1) * pixels, (layers + 1) * pixels * 5);
+        let mark = if self.one_in(5) { self.below(end + 1) } else { 0 };
+        let mut memory = self.memory(&job, mark);
+        for _ in 0..1 + self.below(4) {
+            let allowances = (0..1 + self.below(4)).map(|_| self.allowance(total)).collect();
+            memory = answer(Request::Calls { job: job.clone(), memory, allowances });
+            if self.one_in(2) {
+                let mut other = job.clone();
+                let mut lent = memory.clone();
+                self.spoil(&mut other);
+                if self.one_in(3) {
+                    self.spoil(&mut other);
+                }
+                if self.one_in(3) {
+                    self.spoil_memory(&mut lent);
+                }
+                let allowances = vec![self.allowance(total)];
+                answer(Request::Calls { job: other, memory: lent, allowances });
+            }
+        }
+        let rest = vec![self.allowance(total), u64::MAX, 0];
+        answer(Request::Calls { job, memory, allowances: rest });
+    }
+
+    pub fn narrowing(&mut self) -> Request {
+        let pixels = self.below(6) as usize;
+        let wanted = if self.one_in(10) { self.edge() } else { self.pick(&[1, 3, 4]) };
+        let mut input = self.words(pixels * 4);
+        if self.one_in(10) {
+            self.resize(&mut input, 0);
+        }
+        let mut length = input.len() / 4 * wanted.clamp(0, 8) as usize;
+        if self.one_in(10) {
+            length = self.below(20) as usize;
+        }
+        match self.one_in(2) {
+            true => Request::Narrow { wanted, input, length },
+            false => Request::Bytes { wanted, input, length },
+        }
+    }
+
+    pub fn name(&mut self) -> Request {
+        const ALIASES: [&str; 13] = [
+            "srcover",
+            "srcin",
+            "srcout",
+            "srcatop",
+            "copy",
+            "replace",
+            "none",
+            "minus",
+            "divide",
+            "copyopacity",
+            "average",
+            "add",
+            "subtract",
+        ];
+        let mut name: Vec<u8> = match self.below(83) {
+            n if n < 70 => reference::name(n as usize).into(),
+            n => ALIASES[n as usize - 70].into(),
+        };
+        for byte in &mut name {
+            if self.one_in(3) {
+                byte.make_ascii_uppercase();
+            }
+        }
+        for _ in 0..self.below(4) {
+            let at = self.below(name.len() as u64 + 1) as usize;
+            name.insert(at, self.pick(b"-_ "));
+        }
+        if self.one_in(3) {
+            let at = self.below(name.len() as u64) as usize;
+            match self.below(4) {
+                0 => {
+                    name.remove(at);
+                }
+                1 => name[at] = self.next() as u8,
+                2 => name.insert(at, self.next() as u8),
+                _ => name.truncate(at),
+            }
+        }
+        Request::Name(name)
+    }
+}

@@ -1,0 +1,124 @@
+//! Document 01 worked out a second time, with no line of the Rust: float steps, operators, placing, names,
+//! narrowing, faults and the job, one store after the other. Each place where a reader may go wrong has a
+//! switch (`wrong.rs`); with none set this agrees with the Rust and its model on every request.
+
+mod blend;
+mod checks;
+mod hsl;
+mod job;
+mod operator;
+mod pixel;
+mod place;
+mod steps;
+pub mod wrong;
+
+pub use wrong::{Reading, Wrong};
+
+use crate::request::{ARGUMENTS, Answer, COLUMNS, Job, Memory, NAN, Side, floats};
+use operator::Op;
+use place::{Beneath, Row};
+
+impl Reading {
+    fn layer<'a>(self, job: &'a Job, k: usize) -> Row<'a> {
+        let row = &job.table[k * COLUMNS..][..COLUMNS];
+        let start = if self.is(Wrong::SourceFromZero) { 0 } else { row[5] as usize };
+        let count = if self.is(Wrong::ArgumentsPastCount) { ARGUMENTS } else { row[9] as usize };
+        let first = if self.is(Wrong::ArgumentsOfFirstLayer) { 0 } else { k * ARGUMENTS };
+        Row {
+            op: Op::ALL[row[0] as usize],
+            gravity: row[1],
+            right: row[2],
+            down: row[3],
+            flags: row[4],
+            width: row[6],
+            height: row[7],
+            channels: row[8],
+            source: &job.samples[start.min(job.samples.len())..],
+            args: floats(&job.args[first..first + count]),
+        }
+    }
+
+    /// The destination, widened.
+    fn widened_dst(self, job: &Job) -> Vec<u32> {
+        (0..job.width * job.height).flat_map(|i| self.widened(job.channels, &job.dst, i)).collect()
+    }
+
+    fn narrowed(self, wanted: i64, input: &[u32]) -> Vec<u32> {
+        let mut out = Vec::new();
+        for pixel in input.chunks(4) {
+            match wanted {
+                1 => {
+                    let luma = self.luma([0, 1, 2].map(|c| f32::from_bits(pixel[c])));
+                    let kept = self.is(Wrong::NarrowKeepsNan);
+                    out.push(if luma.is_nan() && !kept { NAN } else { luma.to_bits() });
+                }
+                _ => out.extend_from_slice(&pixel[..wanted as usize]),
+            }
+        }
+        if self.is(Wrong::NarrowStoresNan) {
+            out = out.into_iter().map(|w| if f32::from_bits(w).is_nan() { NAN } else { w }).collect();
+        }
+        out
+    }
+}
+
+/// This module as a side of a comparison.
+pub struct Restated {
+    pub reading: Reading,
+}
+
+impl Side for Restated {
+    fn from_name(&self, name: &[u8]) -> Option<u64> {
+        self.reading.from_name(name)
+    }
+
+    fn compose(&self, job: &Job, out: &mut [u32]) -> u64 {
+        let reading = self.reading;
+        let job = Job { layers: 1, ..job.clone() };
+        if let Some((number, _)) = reading.inputs(&job) {
+            return number;
+        }
+        let channels = if reading.is(Wrong::OutputByChannels) { job.channels } else { 4 };
+        if out.len() as i64 != job.width * job.height * channels {
+            return 9;
+        }
+        let words = reading.widened_dst(&job);
+        let beneath = Beneath { width: job.width, height: job.height, words: &words };
+        let row = reading.layer(&job, 0);
+        for i in 0..job.width * job.height {
+            let cell = reading.cell(&row, &beneath, i % job.width, i / job.width);
+            out[i as usize * 4..][..4].copy_from_slice(&cell);
+        }
+        0
+    }
+
+    fn narrow(&self, wanted: i64, input: &[u32], out: &mut [u32]) -> u64 {
+        if self.reading.narrowing(wanted, input.len(), out.len()) {
+            return 11;
+        }
+        out.copy_from_slice(&self.reading.narrowed(wanted, input));
+        0
+    }
+
+    fn narrow_bytes(&self, wanted: i64, input: &[u32], out: &mut [u8]) -> u64 {
+        if self.reading.narrowing(wanted, input.len(), out.len()) {
+            return 11;
+        }
+        for (byte, word) in out.iter_mut().zip(self.reading.narrowed(wanted, input)) {
+            *byte = self.reading.byte(f32::from_bits(word));
+        }
+        0
+    }
+
+    fn call(&self, job: &Job, allowance: u64, memory: &mut Memory) -> Answer {
+        match self.reading.fault(job, memory) {
+            Some((number, layer)) => {
+                if self.reading.is(Wrong::RefusalResetsMark) {
+                    memory.mark.fill(0);
+                }
+                Answer::refused(number, layer)
+            }
+            None => self.reading.accepted(job, allowance, memory),
+        }
+    }
+}

@@ -1,0 +1,495 @@
+//! The misreadings: every place where document 01 or the Rust can be read wrongly, one switch each, with what
+//! the wrong reader takes it for. `EQUIVALENT` names those that change no answer, with the reason.
+
+use super::blend::Convention;
+use super::operator::Op;
+use super::steps::{Abs, Clamp, Rem};
+
+/// How document 01 is read: as it says, or with one misreading.
+#[derive(Clone, Copy, Debug)]
+pub struct Reading {
+    pub wrong: Option<Wrong>,
+}
+
+impl Reading {
+    pub const RIGHT: Reading = Reading { wrong: None };
+
+    pub fn is(self, wrong: Wrong) -> bool {
+        self.wrong == Some(wrong)
+    }
+}
+
+/// The arguments that have a default.
+#[derive(Clone, Copy, PartialEq, Eq, Debug)]
+pub enum Default {
+    BlendSource,
+    BlendDst,
+    DissolveSource,
+    DissolveDst,
+    Fuzz,
+    Threshold,
+    Amount,
+    Brightness,
+    Saturation,
+    MapAcross,
+    MapDown,
+}
+
+/// The bounds of the table of faults.
+#[derive(Clone, Copy, PartialEq, Eq, Debug)]
+pub enum Bound {
+    LayersLow,
+    LayersHigh,
+    WidthLow,
+    WidthHigh,
+    HeightLow,
+    HeightHigh,
+    OperatorLow,
+    OperatorHigh,
+    GravityLow,
+    GravityHigh,
+    RightLow,
+    RightHigh,
+    DownLow,
+    DownHigh,
+    FlagsLow,
+    FlagsHigh,
+    SourceWidthLow,
+    SourceWidthHigh,
+    SourceHeightLow,
+    SourceHeightHigh,
+    CountLow,
+    CountHigh,
+}
+
+const BOUNDS: [Bound; 22] = [
+    Bound::LayersLow,
+    Bound::LayersHigh,
+    Bound::WidthLow,
+    Bound::WidthHigh,
+    Bound::HeightLow,
+    Bound::HeightHigh,
+    Bound::OperatorLow,
+    Bound::OperatorHigh,
+    Bound::GravityLow,
+    Bound::GravityHigh,
+    Bound::RightLow,
+    Bound::RightHigh,
+    Bound::DownLow,
+    Bound::DownHigh,
+    Bound::FlagsLow,
+    Bound::FlagsHigh,
+    Bound::SourceWidthLow,
+    Bound::SourceWidthHigh,
+    Bound::SourceHeightLow,
+    Bound::SourceHeightHigh,
+    Bound::CountLow,
+    Bound::CountHigh,
+];
+
+const DEFAULTS: [Default; 11] = [
+    Default::BlendSource,
+    Default::BlendDst,
+    Default::DissolveSource,
+    Default::DissolveDst,
+    Default::Fuzz,
+    Default::Threshold,
+    Default::Amount,
+    Default::Brightness,
+    Default::Saturation,
+    Default::MapAcross,
+    Default::MapDown,
+];
+
+const CLAMPS: [Clamp; 6] =
+    [Clamp::Blend, Clamp::Result, Clamp::Lightness, Clamp::Saturation, Clamp::Coordinate, Clamp::Byte];
+const REMS: [Rem; 3] = [Rem::Wrap, Rem::Hue, Rem::Sector];
+const ABSES: [Abs; 4] = [Abs::Difference, Abs::Negate, Abs::ChangeMask, Abs::Threshold];
+const CONVENTIONS: [Convention; 4] =
+    [Convention::Premult, Convention::Divided, Convention::OnPremult, Convention::PremultOnly];
+
+macro_rules! misreadings {
+    ($($group:literal: $($name:ident $text:literal)+;)+) => {
+        #[derive(Clone, Copy, PartialEq, Eq, Debug)]
+        pub enum Wrong {
+            $($($name,)+)+
+            ClampNan(Clamp),
+            ClampZero(Clamp),
+            RemZero(Rem),
+            RemInfinity(Rem),
+            RemBelow(Rem),
+            RemByFloor(Rem),
+            AbsByTest(Abs),
+            Default(Default),
+            Convention(Op, Convention),
+            Neighbour(Op),
+            AliasUnknown(usize),
+            Strict(Bound),
+            Loose(Bound),
+            RowOrder(usize),
+        }
+        const SINGLE: &[(Wrong, &str, &str)] = &[$($((Wrong::$name, $group, $text),)+)+];
+    };
+}
+
+misreadings! {
+    "smaller and larger":
+    SmallerFirstNan "smaller: a NaN in the first place is kept"
+    SmallerSecondNan "smaller: a NaN in the second place is taken"
+    SmallerEqualSecond "smaller: equal values give the second"
+    LargerFirstNan "larger: a NaN in the first place is kept"
+    LargerSecondNan "larger: a NaN in the second place is taken"
+    LargerEqualSecond "larger: equal values give the second"
+    PinLightTurned "PinLight: min and max with their operands exchanged"
+    DarkenTurned "Darken: min(d, s)"
+    LightenTurned "Lighten: max(d, s)"
+    HslTurned "rgb_to_hsl: max and min from blue to red"
+    PlusColourNan "Plus: a NaN colour stays NaN"
+    PlusAlphaNan "Plus: a NaN alpha stays NaN"
+    PlusNotBelowZero "Plus: clamped below as well"
+    BlendAlphaNan "Blend: a NaN alpha stays NaN"
+    BlendColourCapped "Blend: colours capped at 1 like the alpha"
+    DissolveSourceNan "Dissolve: the source's NaN alpha stays NaN"
+    DissolveDstNan "Dissolve: the destination's NaN alpha stays NaN";
+
+    "roots, luma and bytes":
+    RootCut "square root: cut, not rounded"
+    RootOfSubnormal "square root: a subnormal counts as 0"
+    LumaOfGray "luma of three equal values is the value"
+    LumaGrouped "luma: the last two products summed first"
+    LumaWeights "luma with the weights of intensity"
+    NarrowKeepsNan "gray output: a NaN keeps the bits it was computed with"
+    NarrowStoresNan "narrowed or copied channels: a NaN becomes 7FC00000"
+    ByteOfNan "byte of NaN is 255"
+    ByteCut "byte: cut, not rounded"
+    ByteByHalfAdded "byte: 0.5 added in f32 and cut"
+    ByteHalfEven "byte: halves to even"
+    ByteHalfDown "byte: halves down";
+
+    "wrap":
+    WrapWholeToZero "wrap of 2 is 0"
+    WrapBelowToOne "wrap of -1 is 1"
+    ModulusUnionAlpha "ModulusAdd and ModulusSubtract have the union alpha"
+    ModulusSubtractTurned "ModulusSubtract: alpha da - sa"
+    ModulusWrapsColour "ModulusAdd and ModulusSubtract wrap colours";
+
+    "dodge, burn and their kin":
+    DodgeKeepsNan "color_dodge: a NaN quotient stays NaN"
+    BurnKeepsNan "color_burn: a NaN quotient stays NaN"
+    DodgeWhiteFirst "color_dodge: white source tested before black destination"
+    BurnWhiteFirst "color_burn: white destination tested before black source"
+    VividLightHalfLow "VividLight: 0.5 burns"
+    PinLightHalfLow "PinLight: 0.5 darkens"
+    HardMixHalfLow "HardMix: 0.5 gives 0"
+    HardLightHalfLow "HardLight and Overlay: 0.5 takes the first branch, as in W3C"
+    SoftLightHalfHigh "SoftLight: 0.5 takes the second branch"
+    SoftLightQuarterHigh "SoftLight: a destination of 0.25 takes the root"
+    DivideNanBlack "divide: NaN over nothing is 0"
+    DivideOnlyZero "divide: only a zero divisor is special"
+    FreezeNanBlack "Freeze: a NaN destination is black"
+    ReflectNanWhite "Reflect: a NaN destination is white";
+
+    "alpha tests":
+    OverNanTransparent "over: a NaN alpha counts as transparent"
+    OverOnlyZero "over: only alpha 0 counts as transparent"
+    OverKeepsAlpha "over: a negative alpha is stored as it is"
+    OverTransparentBlack "over: transparent is black"
+    OverTransparentSource "over: transparent keeps the source's colour"
+    DstOverTransparentSource "DstOver: as Over with roles exchanged, also where transparent"
+    StraightNanClear "DstIn, DstOut: a NaN alpha clears"
+    StraightOnlyZero "DstIn, DstOut: only alpha 0 clears"
+    StraightNeverClear "DstIn, DstOut: the colour stays where transparent"
+    DividedNanDivides "Divided: a NaN alpha divides"
+    ComponentNanDivides "Hue and its kin: a NaN alpha divides";
+
+    "tests with NaN":
+    IntensityNanSource "DarkenIntensity, LightenIntensity: NaN takes the source"
+    IntensityEqualSource "DarkenIntensity, LightenIntensity: equal takes the source"
+    IntensityUnweighted "DarkenIntensity, LightenIntensity: without the alphas"
+    MaskColoursOnly "ChangeMask compares three channels"
+    MaskNanSame "ChangeMask: NaN counts as the same"
+    MaskExact "ChangeMask: without the 1e-6"
+    MaskBelow "ChangeMask: below, not at most"
+    ThresholdNanMoves "Threshold: a NaN difference moves"
+    ThresholdAbove "Threshold: above, not at least"
+    HslGrayNan "rgb_to_hsl: a NaN difference is gray"
+    HslGrayBelow "rgb_to_hsl: gray below 1e-6 only"
+    HslGrayZero "rgb_to_hsl: gray at 0 only"
+    HslNanRed "rgb_to_hsl: a NaN red takes the red branch"
+    HslHalfLight "rgb_to_hsl: lightness 0.5 takes the light branch"
+    HueUnwrapped "rgb_to_hsl: the red branch without rem_euclid"
+    RgbGrayNan "hsl_to_rgb: a NaN saturation is gray"
+    RgbHalfDark "hsl_to_rgb: lightness 0.5 takes the dark branch"
+    ToneNanFirst "hsl_to_rgb: a NaN hue takes the first branch"
+    ToneNanSecond "hsl_to_rgb: a NaN hue takes the second branch"
+    ToneHalfUp "hsl_to_rgb: 0.5 belongs to the second branch";
+
+    "order of operations":
+    OverByUnion "over: alpha by the union's formula"
+    UnionAsOver "union alpha by over's formula"
+    UnionGrouped "union alpha: sa + (da - sa * da)"
+    OverNotDivided "over: not divided by alpha"
+    OverGrouped "over: d * (da * (1 - sa))"
+    OverReciprocal "over: times 1 / alpha"
+    OverFused "over: a fused step"
+    InGrouped "In, Out: (s * sa) * part"
+    InStraight "In, Out: straight colour"
+    StraightMultiplied "DstIn, DstOut: colour times alpha"
+    DstOutGrouped "DstOut: alpha da - da * sa"
+    AtopGrouped "Atop: s * (sa * da)"
+    AtopStraight "Atop: straight colour"
+    AtopSummedAlpha "Atop: alpha as the sum of its parts"
+    DstAtopGrouped "DstAtop: the alphas' products first"
+    DstAtopByAtop "DstAtop: Atop with roles exchanged"
+    XorGrouped "Xor: the alphas' products first"
+    XorDivided "Xor: divided by alpha"
+    TermsColourFirst "uncovered terms: (s * sa) * (1 - da)"
+    TermsGrouped "uncovered terms: sa * ((1 - da) * s)"
+    CoveredGrouped "covered term: sa * (da * B)"
+    ScreenByProduct "Screen: 1 - (1 - s) * (1 - d)"
+    ScreenGrouped "Screen: s + (d - s * d)"
+    ExclusionGrouped "Exclusion: 2 * (s * d)"
+    LinearLightGrouped "LinearLight: d + (2s - 1)"
+    PegtopSquared "PegtopLight: (1 - 2s) * (d * d)"
+    PegtopDoubled "PegtopLight: 2 * (s * d)"
+    FreezeGrouped "Freeze: (1 - s) * ((1 - s) / d)"
+    ReflectGrouped "Reflect: s * (s / (1 - d))"
+    NegateGrouped "Negate: 1 - (s + d)"
+    HardLightDoubled "HardLight: 2 * (s * d)"
+    HardLightGrouped "HardLight: s + (d - s * d)"
+    SoftLightGrouped "SoftLight: (1 - 2s) * (d * (1 - d))"
+    MathematicsGrouped "Mathematics: A * (s * d)"
+    RmseGrouped "Rmse: a + (b + c)"
+    RmseFromNegativeZero "Rmse: the sum starts at -0"
+    RmseByThird "Rmse: times 1 / 3"
+    RmseOfFour "Rmse: over four channels"
+    IntensityGrouped "intensity: the last two products summed first"
+    IntensityByLuma "intensity with the weights of luma"
+    LightnessHalved "rgb_to_hsl: halves summed"
+    HslSaturationGrouped "rgb_to_hsl: 2 - (max + min)"
+    RgbDarkExpanded "hsl_to_rgb: l + l * s"
+    RgbLightGrouped "hsl_to_rgb: l + (s - l * s)"
+    ToneRiseGrouped "hsl_to_rgb: (q - p) * (6 * t)"
+    ToneFallSixFirst "hsl_to_rgb: ((q - p) * 6) * (2/3 - t)"
+    ToneFallGrouped "hsl_to_rgb: (q - p) * ((2/3 - t) * 6)"
+    ComponentGrouped "Hue and its kin: d * (da * (1 - sa))"
+    ModulateGrouped "Modulate: 2 * (i * percent)";
+
+    "operators and conventions":
+    DividedClampsBlend "Divided clamps the blend first"
+    DividedNotDivided "Divided does not divide"
+    BlendUnclamped "the blend is not clamped before the alphas"
+    ResultUnclamped "the result is not clamped"
+    ExclusionUncovered "Exclusion adds the uncovered terms, as W3C"
+    OverlayAsHardLight "Overlay keyed on the source"
+    MinusTurned "MinusDst and MinusSrc exchanged"
+    DivideTurned "DivideDst and DivideSrc exchanged"
+    StampByComment "Stamp: d + 2s - 1, as its comment says"
+    FreezeByComment "Freeze: roles as its comment says"
+    ReflectByComment "Reflect: roles as its comment says"
+    ClearColourOnly "Clear keeps alpha"
+    ColorizeLightness "Colorize takes the source's lightness too"
+    CopyBlackUnionAlpha "CopyBlack has the union alpha"
+    IntensityKeepsAlpha "Intensity keeps the destination's alpha";
+
+    "arguments":
+    ArgumentRaw "a non-finite argument is used"
+    ArgumentInfinite "only a NaN argument is replaced"
+    ArgumentsPastCount "arguments past the count are read"
+    ArgumentsOfFirstLayer "every layer reads the first layer's arguments"
+    BlendRestShort "Blend: default (1 - a) * 100"
+    BlendRestPlain "Blend: default b = 1 - a"
+    MathematicsFiniteOnly "Mathematics: a non-finite argument is 0"
+    MathematicsSkipsMissing "Mathematics: a missing argument has no term"
+    MapDownTwenty "maps: Y defaults to 20"
+    MapDownRaw "maps: Y defaults to the raw X";
+
+    "maps":
+    DistortByComment "Distort scales by the picture's sides, as its comment says"
+    DisplaceExpanded "Displace: s * X - X / 2"
+    DisplaceUncentred "Displace: without the half"
+    MapTurned "maps: x and y exchanged"
+    MapKeepsAlpha "maps keep the destination's alpha"
+    MapNanLast "a NaN coordinate counts as the last"
+    MapNearest "nearest pixel, not bilinear"
+    MapShortcut "a weight of 0 leaves its neighbour out"
+    MapWeightsFirst "bilinear: p * (wx * wy)"
+    MapRowsFirst "bilinear: (p * wy) * wx"
+    MapColumnsFirst "bilinear: p01 before p10"
+    MapPairs "bilinear: summed in pairs"
+    MapFromZero "bilinear: the sum starts at 0"
+    MapLerp "bilinear by two steps of p + (q - p) * f";
+
+    "placing":
+    CentreDown "centre rounded down"
+    CentreUp "centre rounded up"
+    CentreRounded "centre rounded, halves away from zero"
+    CentreBySides "centre: half the tray less half the source"
+    GravityTurned "gravity's rows and columns exchanged"
+    GravityNoneCentre "no gravity is the centre"
+    OffsetOnlyWithoutGravity "gravity leaves the offset out"
+    OffsetTurned "offsets exchanged"
+    OffsetInward "offsets count inward from the right and the bottom"
+    TileUnmoved "tiles start at the corner of the tray"
+    TileByRemainder "tile by %"
+    TileOfNothingKeeps "tile with an empty source keeps every pixel"
+    TileOfNothingWrites "tile with an empty source writes every pixel"
+    OverlayTurned "overlay's sense turned round"
+    OffOpaque "off the source is opaque black"
+    WidenTransparent "alpha 0 added in widening"
+    WidenRedOnly "gray widens to red"
+    SourceFromZero "the source's start is not read";
+
+    "written or kept":
+    KeptPixelStored "a NaN of a kept pixel becomes 7FC00000"
+    KeptChannelStored "a NaN of a channel whose flag is off becomes 7FC00000"
+    HandedThroughBits "a NaN that an operator hands through keeps its bits"
+    WidenStoresNan "a widened NaN becomes 7FC00000"
+    FlagsTurned "channel flags from alpha to red"
+    AlphaAlwaysOn "alpha written whatever its flag";
+
+    "names":
+    NameDropsTab "tab and line ends are dropped"
+    NameDropsNul "NUL is dropped"
+    NameDropsPunctuation "'.', '+' and '/' are dropped"
+    NameKeepsSpace "a space is not dropped, as the comment says"
+    NameKeepsUnderscore "'_' is not dropped"
+    NameStopsAtNul "a NUL ends the name"
+    NameTrimmedOnly "only the ends are trimmed"
+    NameByUnicode "lowered by Unicode"
+    NameSkipsBadUtf8 "bytes that are not ASCII are skipped"
+    NameKeepsCase "case counts"
+    NameByMask "lowered by setting bit 5"
+    NameByPrefix "the start of a name is enough"
+    NameByStart "a name with more after it is known"
+    NameEmptyIsOver "the empty name is Over"
+    AliasesByComment "srcover and its kin are Src, as the comment says"
+    NameRefusesCurves "blur and interpolate are unknown names";
+
+    "refusals":
+    TableLonger "a longer sheet is accepted"
+    ArgumentsLonger "a longer list of arguments is accepted"
+    TrayLonger "a longer tray is accepted"
+    TrayLengthUnchecked "the tray's length is not looked at"
+    TrayTwoChannels "a tray of two channels is accepted"
+    SourceTwoChannels "a source of two channels is accepted"
+    SourceNegativeStart "a negative start is accepted where the end fits"
+    SourceWraps "start + size wraps"
+    SourceEmptyAnywhere "an empty source may start anywhere"
+    SourceStartInside "the start must lie inside the store"
+    SourceExactEnd "a source may not end with the store"
+    SourceSizeOnly "the start is left out of the sum"
+    SourcePixelsOnly "the channels are left out of the product"
+    InterpolateCarried "Interpolate is accepted"
+    BlurCarried "Blur is accepted"
+    RowBackwards "a layer's faults looked at from 8 to 3"
+    LayersByNumber "the smallest number of all layers"
+    LastLayerFirst "layers looked at from the last"
+    FirstLayerOnly "only the first layer is looked at"
+    LayerFromOne "layers counted from 1"
+    LayerUnnamed "the layer is always 0"
+    TrayBeforeStack "2 before 1"
+    LayersBeforeTray "3 to 8 before 2"
+    WorkBeforeLayers "9 before 3 to 8"
+    MarkBeforeWork "10 before 9"
+    WorkByChannels "a work picture has the tray's channels"
+    WorkLonger "a longer work picture is accepted"
+    WorkFirstOnly "only work picture 0 is looked at"
+    WorkSecondOnly "only work picture 1 is looked at"
+    MarkWithoutTray "the mark's limit leaves the tray's own phase out"
+    MarkInStores "the mark's limit in stores"
+    MarkMissing "an empty list is a mark of 0"
+    MarkLonger "a longer mark is accepted"
+    MarkOfNothing "an empty tray takes any mark"
+    MarkUnfinished "a finished mark is refused"
+    OutputByChannels "a single composition's output has the tray's channels"
+    NarrowPartPixel "an input that is no multiple of 4 is accepted"
+    NarrowLonger "a longer output is accepted"
+    NarrowTwoChannels "two channels may be wanted";
+
+    "the job":
+    WorkExchanged "the two work pictures exchanged"
+    WorkInPlace "one work picture for every phase"
+    LayersFromTop "the last layer is laid first"
+    FirstLayerReadsTray "phase 1 reads the tray, not work 0"
+    EveryLayerReadsTray "every layer is laid on the tray"
+    MapReadsWritten "a map layer is laid over the picture that it reads"
+    ColumnByColumn "pixels column by column"
+    AlphaFirst "alpha is stored first"
+    MarkBeforeAlpha "the mark is raised before alpha"
+    MarkBeforeRed "the mark is raised before the pixel"
+    WholeStackAtOnce "the whole stack is laid in one call, and the mark only raised"
+    PartPixelCounts "four stores count as a pixel"
+    AllowanceInPixels "the allowance counts pixels"
+    AllowanceOfWholePixels "only whole pixels are stored"
+    AllowanceIn32Bits "the allowance is cut to 32 bits"
+    AllowanceOneMore "one store more than allowed"
+    AllowancePerPhase "a call stops at the end of its phase"
+    AllowanceZeroIsAll "an allowance of 0 means no limit"
+    ReportsAllowance "the answer counts what was allowed"
+    ReportsWholePixels "the answer counts five a whole pixel"
+    ReportsChannels "the answer leaves the mark's stores out"
+    ReportsPixels "the answer counts pixels"
+    FinishedInLastPhase "finished in the last phase"
+    FinishedOnlyByStores "finished only by a call that stores"
+    FinishedByRest "finished when the allowance was not used up"
+    FinishedNeverWhenEmpty "an empty tray is never finished"
+    FinishedWithoutLast "finished one pixel early"
+    RefusalResetsMark "a refusal sets the mark to 0";
+}
+
+/// Every misreading with its group and what it takes for true.
+pub fn all() -> Vec<(Wrong, &'static str, String)> {
+    let mut all: Vec<_> = SINGLE.iter().map(|(wrong, group, text)| (*wrong, *group, text.to_string())).collect();
+    let mut add = |wrong: Wrong, group, text: &str| all.push((wrong, group, text.to_string()));
+    for place in CLAMPS {
+        add(Wrong::ClampNan(place), "clamp", "this clamp turns a NaN into 0");
+        add(Wrong::ClampZero(place), "clamp", "this clamp turns -0 into 0");
+    }
+    for place in REMS {
+        add(Wrong::RemZero(place), "rem_euclid", "-0 becomes 0 here");
+        add(Wrong::RemInfinity(place), "rem_euclid", "an infinity gives 0 here");
+        add(Wrong::RemBelow(place), "rem_euclid", "the result stays below m here");
+        add(Wrong::RemByFloor(place), "rem_euclid", "v - m * floor(v / m) here");
+    }
+    for place in ABSES {
+        add(Wrong::AbsByTest(place), "absolute value", "-v where v < 0, so -0 stays");
+    }
+    for which in DEFAULTS {
+        add(Wrong::Default(which), "arguments", "another default (1 more)");
+    }
+    for op in Op::ALL.iter().filter(|op| op.is_mathematical() && **op != Op::Interpolate) {
+        for convention in CONVENTIONS.iter().filter(|c| **c != Reading::RIGHT.convention(*op)) {
+            add(Wrong::Convention(*op, *convention), "conventions", "the operator in this convention");
+        }
+    }
+    for op in Op::ALL.iter().filter(|op| ![Op::Interpolate, Op::Blur].contains(op)) {
+        if ![Op::Negate, Op::Distort].contains(op) {
+            add(Wrong::Neighbour(*op), "operator numbers", "the operator is taken for the next one");
+        }
+    }
+    for alias in 0..13 {
+        add(Wrong::AliasUnknown(alias), "names", "this alias is unknown");
+    }
+    for bound in BOUNDS {
+        add(Wrong::Strict(bound), "refusals", "this bound one too strict");
+        add(Wrong::Loose(bound), "refusals", "this bound one too loose");
+    }
+    for i in 0..5 {
+        add(Wrong::RowOrder(i), "refusals", "faults 3 + i and 4 + i of a layer in the other order");
+    }
+    all
+}
+
+/// Why a misreading changes no answer, for those that change none.
+pub fn equivalent(wrong: Wrong) -> Option<&'static str> {
+    Some(match wrong {
+        Wrong::DstAtopByAtop => "a law: the two sums have the same addends, and addition commutes",
+        Wrong::RmseFromNegativeZero => "a square is never -0, and -0 + x is x for every other x",
+        Wrong::RowOrder(0) => "no number is both outside 0 to 69 and 43 or 67",
+        Wrong::ClampNan(Clamp::Coordinate) => "a NaN coordinate is 0 before the clamp",
+        Wrong::ClampNan(Clamp::Byte) => "a NaN byte is 0 before the clamp",
+        Wrong::ClampZero(Clamp::Byte) => "both zeros give byte 0",
+        _ => return None,
+    })
+}

@@ -1,0 +1,177 @@
+//! The smallest request that still fails: one simplification after the other, as long as the failure stays.
+
+use crate::lines::Request;
+use crate::request::{ARGUMENTS, COLUMNS, Job, Memory};
+
+const ONE: u32 = 0x3f80_0000;
+
+/// A picture of `channels` without its last column or row.
+fn cropped(words: &[u32], width: i64, channels: i64, column: bool) -> Vec<u32> {
+    let row = (width * channels) as usize;
+    match column {
+        true => words.chunks(row).flat_map(|r| r[..r.len() - channels as usize].to_vec()).collect(),
+        false => words[..words.len() - row].to_vec(),
+    }
+}
+
+/// Whether the tray's sides fit its samples, so that it can be cropped.
+fn sized(job: &Job) -> bool {
+    let side = |n: i64| (0..=2048).contains(&n);
+    let plain = side(job.width) && side(job.height) && (1..=4).contains(&job.channels);
+    plain && job.dst.len() as i64 == job.width * job.height * job.channels
+}
+
+fn crops(job: &Job, memory: Option<&Memory>) -> Vec<(Job, Memory)> {
+    let mut out = Vec::new();
+    let pixels = |w: &Vec<u32>| w.len() as i64 == job.width * job.height * 4;
+    let blank = Memory::default();
+    let fits = memory.is_none_or(|m| m.work.iter().all(pixels));
+    for column in [true, false] {
+        let side = if column { job.width } else { job.height };
+        if !sized(job) || !fits || side < 1 || job.dst.is_empty() {
+            continue;
+        }
+        let mut small = job.clone();
+        small.dst = cropped(&job.dst, job.width, job.channels, column);
+        *(if column { &mut small.width } else { &mut small.height }) -= 1;
+        let memory = memory.unwrap_or(&blank);
+        let work = memory.work.clone().map(|w| if w.is_empty() { w } else { cropped(&w, job.width, 4, column) });
+        out.push((small, Memory { work, mark: memory.mark.clone() }));
+    }
+    out
+}
+
+/// Jobs with a layer less, or with simpler numbers in their lists.
+fn simpler(job: &Job) -> Vec<Job> {
+    let mut out = Vec::new();
+    let layers = job.layers as usize;
+    if job.layers > 1 && job.table.len() == layers * COLUMNS && job.args.len() == layers * ARGUMENTS {
+        for k in 0..layers {
+            let mut small = job.clone();
+            small.layers -= 1;
+            small.table.drain(k * COLUMNS..(k + 1) * COLUMNS);
+            small.args.drain(k * ARGUMENTS..(k + 1) * ARGUMENTS);
+            out.push(small);
+        }
+    }
+    if !job.samples.is_empty() {
+        let mut small = job.clone();
+        small.samples.pop();
+        out.push(small);
+    }
+    for (i, n) in job.table.iter().enumerate() {
+        for simple in [0, 1, n / 2] {
+            let other = i % COLUMNS != 0 && *n != simple && !(0..*n).contains(&simple);
+            if other || i % COLUMNS != 0 && simple < *n {
+                let mut small = job.clone();
+                small.table[i] = simple;
+                out.push(small);
+            }
+        }
+    }
+    type List = fn(&mut Job) -> &mut Vec<u32>;
+    let lists: [List; 3] = [|j| &mut j.dst, |j| &mut j.args, |j| &mut j.samples];
+    for list in lists {
+        let length = list(&mut job.clone()).len();
+        for i in 0..length {
+            let word = list(&mut job.clone())[i];
+            let choices: &[u32] = if word == 0 { &[] } else if word == ONE { &[0] } else { &[0, ONE] };
+            for simple in choices {
+                let mut small = job.clone();
+                list(&mut small)[i] = *simple;
+                out.push(small);
+            }
+        }
+    }
+    out
+}
+
+fn shorter<T: Clone>(list: &[T]) -> Vec<Vec<T>> {
+    (0..list.len())
+        .map(|i| {
+            let mut small = list.to_vec();
+            small.remove(i);
+            small
+        })
+        .collect()
+}
+
+fn smaller(request: &Request) -> Vec<Request> {
+    match request {
+        Request::Name(name) => shorter(name).into_iter().map(Request::Name).collect(),
+        Request::Narrow { wanted, input, length } | Request::Bytes { wanted, input, length } => {
+            let bytes = matches!(request, Request::Bytes { .. });
+            let made = |wanted, input, length| match bytes {
+                true => Request::Bytes { wanted, input, length },
+                false => Request::Narrow { wanted, input, length },
+            };
+            let step = (*wanted).clamp(0, 4) as usize;
+            let mut out = Vec::new();
+            for i in 0..input.len() / 4 {
+                let mut small = input.clone();
+                small.drain(i * 4..i * 4 + 4);
+                out.push(made(*wanted, small, length.saturating_sub(step)));
+            }
+            for i in (0..input.len()).filter(|i| input[*i] != 0) {
+                let mut small = input.clone();
+                small[i] = 0;
+                out.push(made(*wanted, small, *length));
+            }
+            out
+        }
+        Request::Compose { job, length } => {
+            let area = |job: &Job| (job.width * job.height * 4) as usize;
+            let mut out = Vec::new();
+            if sized(job) && *length == area(job) {
+                out.extend(crops(job, None).into_iter().map(|(job, _)| Request::Compose { length: area(&job), job }));
+            }
+            out.extend(simpler(job).into_iter().map(|job| Request::Compose { job, length: *length }));
+            out
+        }
+        Request::Calls { job, memory, allowances } => {
+            let made = |job: Job, memory: Memory, allowances: Vec<u64>| Request::Calls { job, memory, allowances };
+            let mut out: Vec<Request> = Vec::new();
+            if allowances.len() > 1 {
+                out.extend(shorter(allowances).into_iter().map(|a| made(job.clone(), memory.clone(), a)));
+            }
+            out.extend(crops(job, Some(memory)).into_iter().map(|(job, memory)| made(job, memory, allowances.clone())));
+            out.extend(simpler(job).into_iter().map(|job| made(job, memory.clone(), allowances.clone())));
+            for i in (0..allowances.len()).filter(|i| allowances[*i] > 0) {
+                for less in [allowances[i] / 2, allowances[i] - 1] {
+                    let mut small = allowances.clone();
+                    small[i] = less;
+                    out.push(made(job.clone(), memory.clone(), small));
+                }
+            }
+            for w in 0..2 {
+                if memory.work[w].iter().any(|word| *word != 0) {
+                    let mut blank = memory.clone();
+                    blank.work[w].fill(0);
+                    out.push(made(job.clone(), blank, allowances.clone()));
+                }
+            }
+            if memory.mark.iter().any(|mark| *mark != 0) {
+                let mut blank = memory.clone();
+                blank.mark.fill(0);
+                out.push(made(job.clone(), blank, allowances.clone()));
+            }
+            out
+        }
+    }
+}
+
+/// Shrinks a request for which `fails` holds. The work is bounded, so the result may not be the least.
+pub fn shrink(request: Request, fails: impl Fn(&Request) -> bool) -> Request {
+    let mut least = request;
+    let mut tries = 100_000u32;
+    loop {
+        let found = smaller(&least).into_iter().find(|small| {
+            tries = tries.saturating_sub(1);
+            tries > 0 && fails(small)
+        });
+        match found {
+            Some(small) => least = small,
+            None => return least,
+        }
+    }
+}
