@@ -43,9 +43,7 @@ fn include_rust() {
 }
 
 fn link_tray(folder: &Path) {
-    let folder = folder
-        .canonicalize()
-        .unwrap_or_else(|_| panic!("TRAY_LIB names no folder: {}", folder.display()));
+    let folder = folder.canonicalize().unwrap_or_else(|_| panic!("TRAY_LIB names no folder: {}", folder.display()));
     let archive = folder.join("libtray.a");
     assert!(archive.exists(), "{} does not exist", archive.display());
     println!("cargo::rerun-if-changed={}", archive.display());

@@ -47,6 +47,9 @@ pub fn carried() -> impl Iterator<Item = i64> {
 
 pub struct Random(u64);
 
+/// The largest width and height that are drawn.
+pub type Sides = (u64, u64);
+
 /// How the words of a picture are drawn.
 #[derive(Clone, Copy)]
 enum Flavour {
@@ -144,9 +147,9 @@ impl Random {
     }
 
     /// A row and its arguments for an operator, with a source in a store of samples that it may lengthen.
-    fn layer(&mut self, operator: i64, most: u64, job: &mut Job) {
+    fn layer(&mut self, operator: i64, most: Sides, job: &mut Job) {
         let channels = self.pick(&[1, 3, 4, 4]);
-        let (width, height) = (self.side(most), self.side(most));
+        let (width, height) = (self.side(most.0), self.side(most.1));
         let size = (width * height * channels) as usize;
         // A new source behind the others, or one that overlaps what is there.
         let start = if self.one_in(4) && job.samples.len() >= size {
@@ -157,14 +160,14 @@ impl Random {
             job.samples.extend(more);
             job.samples.len() - size
         };
-        let offset = |r: &mut Random| match r.below(12) {
+        let offset = |r: &mut Random, most: u64| match r.below(12) {
             0 => r.pick(&[-1_000_000, 1_000_000, 999_999, -999_999]),
             1..=5 => 0,
             _ => r.below(2 * most + 3) as i64 - most as i64 - 1,
         };
         let flags = if self.one_in(2) { 62 } else { self.below(64) as i64 };
         let count = self.below(5);
-        let (right, down) = (offset(self), offset(self));
+        let (right, down) = (offset(self, most.0), offset(self, most.1));
         let gravity = if self.one_in(2) { 0 } else { self.below(10) as i64 };
         let start = start as i64;
         job.table.extend([operator, gravity, right, down, flags, start, width, height, channels, count as i64]);
@@ -186,14 +189,14 @@ impl Random {
     }
 
     /// A job without a fault.
-    pub fn job(&mut self, layers: u64, most: u64, operator: Option<i64>) -> Job {
+    pub fn job(&mut self, layers: u64, most: Sides) -> Job {
         let operators: Vec<i64> = carried().collect();
         let channels = self.pick(&[1, 3, 4, 4, 4]);
-        let (width, height) = (self.side(most), self.side(most));
+        let (width, height) = (self.side(most.0), self.side(most.1));
         let dst = self.words((width * height * channels) as usize);
         let mut job = Job { width, height, channels, dst, layers: layers as i64, ..Job::default() };
         for _ in 0..layers {
-            let operator = operator.unwrap_or_else(|| self.pick(&operators));
+            let operator = self.pick(&operators);
             self.layer(operator, most, &mut job);
         }
         self.alike(&mut job);
@@ -292,9 +295,19 @@ impl Random {
         }
     }
 
+    /// Small pictures, and now and then a larger or a long one.
+    fn sides(&mut self) -> Sides {
+        match self.below(2000) {
+            0 => (2048, 2),
+            1 => (2, 2048),
+            2..5 => (40, 30),
+            _ => self.pick(&[(1, 1), (2, 2), (3, 3), (4, 4), (6, 6), (8, 3)]),
+        }
+    }
+
     pub fn composition(&mut self) -> Request {
-        let most = self.pick(&[1, 2, 3, 4, 6]);
-        let mut job = self.job(1, most, None);
+        let most = self.sides();
+        let mut job = self.job(1, most);
         let faulty = self.one_in(12);
         let mut length = (job.width * job.height * 4) as usize;
         if faulty {
@@ -312,8 +325,8 @@ impl Random {
     /// with other inputs stand among them. `answer` is asked for the memory after each request.
     pub fn job_requests(&mut self, mut answer: impl FnMut(Request) -> Memory) {
         let layers = if self.one_in(10) { 1 + self.below(16) } else { 2 + self.below(4) };
-        let most = self.pick(&[1, 2, 3, 4]);
-        let job = self.job(layers, most, None);
+        let most = self.sides();
+        let job = self.job(layers, most);
         let pixels = (job.width * job.height) as u64;
         let (end, total) = ((layers + 1) * pixels, (layers + 1) * pixels * 5);
         let mark = if self.one_in(5) { self.below(end + 1) } else { 0 };

@@ -59,10 +59,9 @@ fn simpler(job: &Job) -> Vec<Job> {
         small.samples.pop();
         out.push(small);
     }
-    for (i, n) in job.table.iter().enumerate() {
-        for simple in [0, 1, n / 2] {
-            let other = i % COLUMNS != 0 && *n != simple && !(0..*n).contains(&simple);
-            if other || i % COLUMNS != 0 && simple < *n {
+    for (i, n) in job.table.iter().enumerate().filter(|(i, _)| i % COLUMNS != 0) {
+        for simple in [0, 1, n / 2, n - n.signum()] {
+            if simple.unsigned_abs() < n.unsigned_abs() {
                 let mut small = job.clone();
                 small.table[i] = simple;
                 out.push(small);
@@ -75,7 +74,13 @@ fn simpler(job: &Job) -> Vec<Job> {
         let length = list(&mut job.clone()).len();
         for i in 0..length {
             let word = list(&mut job.clone())[i];
-            let choices: &[u32] = if word == 0 { &[] } else if word == ONE { &[0] } else { &[0, ONE] };
+            let choices: &[u32] = if word == 0 {
+                &[]
+            } else if word == ONE {
+                &[0]
+            } else {
+                &[0, ONE]
+            };
             for simple in choices {
                 let mut small = job.clone();
                 list(&mut small)[i] = *simple;

@@ -20,7 +20,9 @@ impl Reading {
             return wrong;
         }
         match op {
-            Op::Multiply | Op::Screen | Op::Lighten | Op::Difference | Op::LinearBurn | Op::Stamp => Convention::Premult,
+            Op::Multiply | Op::Screen | Op::Lighten | Op::Difference | Op::LinearBurn | Op::Stamp => {
+                Convention::Premult
+            }
             Op::Darken | Op::DivideDst | Op::DivideSrc => Convention::OnPremult,
             Op::ModulusAdd | Op::ModulusSubtract | Op::Negate | Op::Exclusion => Convention::PremultOnly,
             _ => Convention::Divided,
@@ -73,7 +75,11 @@ impl Reading {
         match self.convention(op) {
             Convention::Premult => covered(self.blend(op, s, d, args)) + terms,
             Convention::Divided => {
-                let b = if self.is(Wrong::DividedClampsBlend) { self.blend(op, s, d, args) } else { self.raw(op, s, d, args) };
+                let b = if self.is(Wrong::DividedClampsBlend) {
+                    self.blend(op, s, d, args)
+                } else {
+                    self.raw(op, s, d, args)
+                };
                 let v = covered(b) + terms;
                 let divides = if self.is(Wrong::DividedNanDivides) { !(a <= 0.0) } else { a > 0.0 };
                 match divides {

@@ -19,9 +19,8 @@ impl Reading {
     }
 
     fn stack(self, job: &Job) -> bool {
-        let length = |have: usize, want: i64, longer: Wrong| {
-            have as i64 == want || self.is(longer) && have as i64 > want
-        };
+        let length =
+            |have: usize, want: i64, longer: Wrong| have as i64 == want || self.is(longer) && have as i64 > want;
         self.within(job.layers, (Bound::LayersLow, 1), (Bound::LayersHigh, 16))
             && length(job.table.len(), job.layers * COLUMNS as i64, Wrong::TableLonger)
             && length(job.args.len(), job.layers * ARGUMENTS as i64, Wrong::ArgumentsLonger)
@@ -125,7 +124,8 @@ impl Reading {
 
     fn work(self, job: &Job, memory: &Memory) -> bool {
         let want = job.width * job.height * if self.is(Wrong::WorkByChannels) { job.channels } else { 4 };
-        let good = |work: &Vec<u32>| work.len() as i64 == want || self.is(Wrong::WorkLonger) && work.len() as i64 > want;
+        let good =
+            |work: &Vec<u32>| work.len() as i64 == want || self.is(Wrong::WorkLonger) && work.len() as i64 > want;
         let [first, second] = &memory.work;
         (good(first) || self.is(Wrong::WorkSecondOnly)) && (good(second) || self.is(Wrong::WorkFirstOnly))
     }
@@ -149,10 +149,11 @@ impl Reading {
     /// Every fault of a job's call.
     pub fn fault(self, job: &Job, memory: &Memory) -> Option<(u64, u64)> {
         let (work, mark) = (self.work(job, memory), || self.mark(job, memory));
+        let layer = if self.is(Wrong::LayerOfMemory) { job.layers.wrapping_sub(1) as u64 } else { 0 };
         let lent = || match () {
-            _ if self.is(Wrong::MarkBeforeWork) && !mark() => Some((10, 0)),
-            _ if !work => Some((9, 0)),
-            _ if !mark() => Some((10, 0)),
+            _ if self.is(Wrong::MarkBeforeWork) && !mark() => Some((10, layer)),
+            _ if !work => Some((9, layer)),
+            _ if !mark() || self.is(Wrong::EveryJobRefused) => Some((10, layer)),
             _ => None,
         };
         if self.is(Wrong::WorkBeforeLayers) && self.stack(job) && self.tray(job) && !work {

@@ -96,6 +96,7 @@ impl Reading {
             Some(Wrong::AllowanceInPixels) => allowance.saturating_mul(5),
             Some(Wrong::AllowanceOfWholePixels) => allowance / 5 * 5,
             Some(Wrong::AllowanceIn32Bits) => allowance as u32 as u64,
+            Some(Wrong::AllowanceSigned) => (allowance as i64).max(0) as u64,
             Some(Wrong::AllowanceOneMore) => allowance.saturating_add(1),
             Some(Wrong::AllowancePerPhase) => allowance.min((pixels - start % pixels.max(1)) * 5),
             Some(Wrong::AllowanceZeroIsAll) if allowance == 0 => left,
@@ -159,6 +160,7 @@ impl Reading {
             Some(Wrong::FinishedByRest) => made < allowance,
             Some(Wrong::FinishedNeverWhenEmpty) => mark == end && pixels > 0,
             Some(Wrong::FinishedWithoutLast) => mark + 1 >= end,
+            Some(Wrong::FinishedNextTime) => start == end,
             _ => mark == end,
         };
         Answer { number: 0, layer: 0, stores, finished }

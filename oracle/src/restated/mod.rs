@@ -116,7 +116,9 @@ impl Side for Restated {
                 if self.reading.is(Wrong::RefusalResetsMark) {
                     memory.mark.fill(0);
                 }
-                Answer::refused(number, layer)
+                let end = (job.layers as u64).wrapping_add(1).wrapping_mul(memory.work[0].len() as u64 / 4);
+                let finished = self.reading.is(Wrong::RefusalFinished) && memory.mark.first() == Some(&end);
+                Answer { finished, ..Answer::refused(number, layer) }
             }
             None => self.reading.accepted(job, allowance, memory),
         }

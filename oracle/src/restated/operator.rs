@@ -59,7 +59,8 @@ impl Reading {
             Some(Wrong::NameDropsPunctuation) => b".+/",
             _ => b"",
         };
-        let less = byte == b' ' && self.is(Wrong::NameKeepsSpace) || byte == b'_' && self.is(Wrong::NameKeepsUnderscore);
+        let less =
+            byte == b' ' && self.is(Wrong::NameKeepsSpace) || byte == b'_' && self.is(Wrong::NameKeepsUnderscore);
         (b"-_ ".contains(&byte) || more.contains(&byte)) && !less
     }
 

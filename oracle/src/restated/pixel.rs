@@ -48,7 +48,9 @@ impl Reading {
             Op::DstOut => self.straight(d, da * (1.0 - sa)),
             Op::Atop => self.atop(s, d),
             Op::DstAtop if self.is(Wrong::DstAtopByAtop) => self.atop(d, s),
-            Op::DstAtop if self.is(Wrong::DstAtopGrouped) => each(s, d, sa, |s, d| d * (da * sa) + s * (sa * (1.0 - da))),
+            Op::DstAtop if self.is(Wrong::DstAtopGrouped) => {
+                each(s, d, sa, |s, d| d * (da * sa) + s * (sa * (1.0 - da)))
+            }
             Op::DstAtop => each(s, d, sa, |s, d| (d * da) * sa + (s * sa) * (1.0 - da)),
             Op::Xor => self.xor(s, d),
             Op::Plus => self.plus(s, d),
@@ -80,7 +82,9 @@ impl Reading {
             Op::CopyGreen | Op::CopyMagenta => [d[0], s[1], d[2], da],
             Op::CopyBlue | Op::CopyYellow => [d[0], d[1], s[2], da],
             Op::CopyAlpha => with_alpha(colour(d), sa),
-            Op::CopyBlack if self.is(Wrong::CopyBlackUnionAlpha) => with_alpha([self.intensity(s); 3], self.union(sa, da)),
+            Op::CopyBlack if self.is(Wrong::CopyBlackUnionAlpha) => {
+                with_alpha([self.intensity(s); 3], self.union(sa, da))
+            }
             Op::CopyBlack => with_alpha([self.intensity(s); 3], da),
             Op::Intensity if self.is(Wrong::IntensityKeepsAlpha) => with_alpha([self.intensity(s); 3], da),
             Op::Intensity => with_alpha([self.intensity(s); 3], self.union(sa, da)),
@@ -130,7 +134,7 @@ impl Reading {
         let a = sa * part;
         match self.wrong {
             Some(Wrong::InGrouped) => with_alpha(colour(s).map(|c| (c * sa) * part), a),
-            Some(Wrong::InStraight) => s.map(|c| c).into_iter().take(3).chain([a]).collect::<Vec<_>>().try_into().unwrap(),
+            Some(Wrong::InStraight) => with_alpha(colour(s), a),
             _ => with_alpha(colour(s).map(|c| c * a), a),
         }
     }
@@ -290,7 +294,8 @@ impl Reading {
         let bright = self.arg(args, 0, Default::Brightness, 100.0) / 100.0;
         let satur = self.arg(args, 1, Default::Saturation, 100.0) / 100.0;
         let i = self.intensity(s) - 0.5;
-        let factor = |by: f32| if self.is(Wrong::ModulateGrouped) { 1.0 + 2.0 * (i * by) } else { 1.0 + (2.0 * i) * by };
+        let factor =
+            |by: f32| if self.is(Wrong::ModulateGrouped) { 1.0 + 2.0 * (i * by) } else { 1.0 + (2.0 * i) * by };
         let to = self.rgb_to_hsl(colour(d));
         let l = self.clamp(Clamp::Lightness, to.l * factor(bright), 1.0);
         let sat = self.clamp(Clamp::Saturation, to.s * factor(satur), 1.0);

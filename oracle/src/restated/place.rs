@@ -64,23 +64,24 @@ impl Reading {
         if self.is(Wrong::WidenStoresNan) { out.map(|w| stored(f32::from_bits(w))) } else { out }
     }
 
-    fn centre(self, room: i64) -> i64 {
+    /// Half of tray side less source side, cut towards zero.
+    fn centre(self, tray: i64, source: i64) -> i64 {
+        let room = tray - source;
         match self.wrong {
+            Some(Wrong::CentreBySides) => tray / 2 - source / 2,
             Some(Wrong::CentreDown) => room.div_euclid(2),
             Some(Wrong::CentreUp) => -(-room).div_euclid(2),
             Some(Wrong::CentreRounded) => (room as f64 / 2.0).round() as i64,
-            Some(Wrong::CentreBySides) => unreachable!(),
             _ => room / 2,
         }
     }
 
     /// The corner of a source on a destination.
     fn corner(self, row: &Row, beneath: &Beneath) -> (i64, i64) {
-        let along = |part: i64, room: i64, halves: i64| match part {
+        let along = |part: i64, tray: i64, source: i64| match part {
             0 => 0,
-            1 if self.is(Wrong::CentreBySides) => halves,
-            1 => self.centre(room),
-            _ => room,
+            1 => self.centre(tray, source),
+            _ => tray - source,
         };
         let (mut column, mut line) = match row.gravity {
             0 => (0, 0),
@@ -92,8 +93,8 @@ impl Reading {
         if row.gravity == 0 && self.is(Wrong::GravityNoneCentre) {
             (column, line) = (1, 1);
         }
-        let x = along(column, beneath.width - row.width, beneath.width / 2 - row.width / 2);
-        let y = along(line, beneath.height - row.height, beneath.height / 2 - row.height / 2);
+        let x = along(column, beneath.width, row.width);
+        let y = along(line, beneath.height, row.height);
         match self.wrong {
             Some(Wrong::OffsetOnlyWithoutGravity) if row.gravity != 0 => (x, y),
             Some(Wrong::OffsetTurned) => (x + row.down, y + row.right),
@@ -110,7 +111,8 @@ impl Reading {
         let (left, top) = self.corner(row, beneath);
         let (mut sx, mut sy) = (x - left, y - top);
         let some = row.width > 0 && row.height > 0;
-        let tile = row.flags & 1 != 0;
+        let (tile_bit, overlay_bit) = if self.is(Wrong::FlagsExchanged) { (2, 1) } else { (1, 2) };
+        let tile = row.flags & tile_bit != 0;
         if tile && some {
             let rest = |n: i64, m: i64| if self.is(Wrong::TileByRemainder) { n % m } else { n.rem_euclid(m) };
             (sx, sy) = (rest(sx, row.width), rest(sy, row.height));
@@ -121,7 +123,7 @@ impl Reading {
         if tile && !some && self.is(Wrong::TileOfNothingWrites) {
             return Spot::Off;
         }
-        let overlay = row.flags & 2 != 0;
+        let overlay = row.flags & overlay_bit != 0;
         if (0..row.width).contains(&sx) && (0..row.height).contains(&sy) {
             Spot::On(sx, sy)
         } else if overlay != self.is(Wrong::OverlayTurned) {
@@ -146,7 +148,15 @@ impl Reading {
             Some(Wrong::Neighbour(other)) if other == row.op => Op::ALL[(other as usize + 1) % 70],
             _ => row.op,
         };
-        let result = if op.is_map() { self.map(op, row, beneath, (x, y), s, d) } else { self.pixel(op, s, d, &row.args) };
+        let mut result = match op {
+            _ if self.is(Wrong::PictureUnchanged) => return under,
+            _ if self.is(Wrong::PictureAlwaysBlack) => return [0, 0, 0, 1f32.to_bits()],
+            _ if op.is_map() => self.map(op, row, beneath, (x, y), s, d),
+            _ => self.pixel(op, s, d, &row.args),
+        };
+        if op == Op::CopyAlpha && row.channels < 4 && self.is(Wrong::CopyAlphaIntensity) {
+            result[3] = self.intensity(s);
+        }
         let mut out = under;
         for c in 0..4 {
             if self.on(row.flags, c) {

@@ -128,7 +128,8 @@ impl Reading {
         if self.is(Wrong::LumaGrouped) {
             return 0.299 * c[0] + (0.587 * c[1] + 0.114 * c[2]);
         }
-        let [r, g, b] = if self.is(Wrong::LumaWeights) { [0.212_656, 0.715_158, 0.072_186] } else { [0.299, 0.587, 0.114] };
+        let [r, g, b] =
+            if self.is(Wrong::LumaWeights) { [0.212_656, 0.715_158, 0.072_186] } else { [0.299, 0.587, 0.114] };
         r * c[0] + g * c[1] + b * c[2]
     }
 

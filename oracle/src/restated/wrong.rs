@@ -290,7 +290,10 @@ misreadings! {
     ClearColourOnly "Clear keeps alpha"
     ColorizeLightness "Colorize takes the source's lightness too"
     CopyBlackUnionAlpha "CopyBlack has the union alpha"
-    IntensityKeepsAlpha "Intensity keeps the destination's alpha";
+    IntensityKeepsAlpha "Intensity keeps the destination's alpha"
+    CopyAlphaIntensity "CopyAlpha of a source without alpha takes its intensity, as the comment says"
+    PictureUnchanged "a layer leaves the picture beneath as it is"
+    PictureAlwaysBlack "a layer writes the same picture always";
 
     "arguments":
     ArgumentRaw "a non-finite argument is used"
@@ -346,6 +349,7 @@ misreadings! {
     HandedThroughBits "a NaN that an operator hands through keeps its bits"
     WidenStoresNan "a widened NaN becomes 7FC00000"
     FlagsTurned "channel flags from alpha to red"
+    FlagsExchanged "tile and overlay exchanged"
     AlphaAlwaysOn "alpha written whatever its flag";
 
     "names":
@@ -392,6 +396,8 @@ misreadings! {
     LayersBeforeTray "3 to 8 before 2"
     WorkBeforeLayers "9 before 3 to 8"
     MarkBeforeWork "10 before 9"
+    LayerOfMemory "9 and 10 answer the last layer"
+    EveryJobRefused "every job is refused"
     WorkByChannels "a work picture has the tray's channels"
     WorkLonger "a longer work picture is accepted"
     WorkFirstOnly "only work picture 0 is looked at"
@@ -423,6 +429,7 @@ misreadings! {
     AllowanceInPixels "the allowance counts pixels"
     AllowanceOfWholePixels "only whole pixels are stored"
     AllowanceIn32Bits "the allowance is cut to 32 bits"
+    AllowanceSigned "the allowance is signed"
     AllowanceOneMore "one store more than allowed"
     AllowancePerPhase "a call stops at the end of its phase"
     AllowanceZeroIsAll "an allowance of 0 means no limit"
@@ -435,6 +442,8 @@ misreadings! {
     FinishedByRest "finished when the allowance was not used up"
     FinishedNeverWhenEmpty "an empty tray is never finished"
     FinishedWithoutLast "finished one pixel early"
+    FinishedNextTime "finished only by the call after the last store"
+    RefusalFinished "a refused call answers finished on a finished mark"
     RefusalResetsMark "a refusal sets the mark to 0";
 }
 
@@ -490,6 +499,24 @@ pub fn equivalent(wrong: Wrong) -> Option<&'static str> {
         Wrong::ClampNan(Clamp::Coordinate) => "a NaN coordinate is 0 before the clamp",
         Wrong::ClampNan(Clamp::Byte) => "a NaN byte is 0 before the clamp",
         Wrong::ClampZero(Clamp::Byte) => "both zeros give byte 0",
+        Wrong::ClampZero(Clamp::Saturation) => "both zeros make hsl_to_rgb gray",
+        Wrong::SoftLightQuarterHigh => "at 0.25 the polynomial and the root both give 0.5",
+        Wrong::DivideNanBlack => "where the numerator is NaN the uncovered terms are NaN, and so is the result",
+        Wrong::FreezeNanBlack | Wrong::ReflectNanWhite => {
+            "where the destination is NaN the uncovered terms are NaN, and so is the result"
+        }
+        Wrong::NameByMask => "of the bytes that setting bit 5 changes, only capitals become bytes of a name",
+        Wrong::RemZero(Rem::Hue | Rem::Sector) => "t = -0 adds a zero to p, and p = 2l - q is never -0",
+        Wrong::RemInfinity(Rem::Hue | Rem::Sector) => {
+            "no difference of two channels exceeds max - min: neither operand is infinite"
+        }
+        Wrong::RemBelow(Rem::Hue) => "a hue of 1 and a hue of 0 have the same three tones",
+        Wrong::RemByFloor(Rem::Hue) => {
+            "the same for -1 to 1, but where a hue of 1 becomes 0, with the same three tones"
+        }
+        Wrong::RemByFloor(Rem::Sector) => "t lies from -1/3 to 4/3, where one is taken away or added as by %",
+        Wrong::AbsByTest(Abs::Negate) => "1 - 0 and 1 - -0 are 1",
+        Wrong::AbsByTest(Abs::ChangeMask | Abs::Threshold) => "the two zeros compare alike",
         _ => return None,
     })
 }

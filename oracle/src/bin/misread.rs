@@ -1,0 +1,74 @@
+//! misread [FILE [COUNT]]: replays the fixed vectors on the restatement of document 01. Without a misreading every
+//! line must agree; with each of the misreadings, one at a time, some line must not, unless the misreading is
+//! named as equivalent: then every line must, and COUNT random compositions besides. Ends with a count, and
+//! with status 1 if any of this fails.
+
+use oracle::compare::{agrees, expected};
+use oracle::lines::{Case, Reader, alone};
+use oracle::random::Random;
+use oracle::restated::{Reading, Restated, wrong};
+
+fn cases(path: &str) -> Vec<(usize, Case)> {
+    let text = std::fs::read_to_string(path).unwrap_or_else(|e| panic!("{path}: {e}"));
+    let mut reader = Reader::default();
+    let lines = text.lines().enumerate();
+    let read = lines.filter_map(|(i, line)| {
+        let case = reader.case(line).unwrap_or_else(|e| panic!("{path}, line {}: {e}", i + 1));
+        case.map(|case| (i + 1, case))
+    });
+    read.collect()
+}
+
+/// The lines on which a reading disagrees.
+fn caught(cases: &[(usize, Case)], reading: Reading) -> Vec<usize> {
+    let side = Restated { reading };
+    cases.iter().filter(|(_, case)| !agrees(&side, case)).map(|(line, _)| *line).collect()
+}
+
+/// A random composition on which a reading disagrees.
+fn found_at_random(count: u64, reading: Reading) -> Option<Case> {
+    let side = Restated { reading };
+    let mut random = Random::new(count);
+    (0..count).map(|_| expected(random.composition())).find(|case| !agrees(&side, case))
+}
+
+fn main() {
+    let default = concat!(env!("CARGO_MANIFEST_DIR"), "/../crates/vectors/data/vectors.txt").to_string();
+    let cases = cases(&std::env::args().nth(1).unwrap_or(default));
+    let count: u64 = std::env::args().nth(2).and_then(|n| n.parse().ok()).unwrap_or(0);
+    // A misreading may run out of a list's bounds: that counts as an answer that is wrong.
+    std::panic::set_hook(Box::new(|_| {}));
+    let right = caught(&cases, Reading::RIGHT);
+    println!("no misreading: {} of {} cases disagree {right:?}", right.len(), cases.len());
+    let (mut found, mut equal, mut bad) = (0, 0, right.len());
+    for (misreading, group, text) in wrong::all() {
+        let lines = caught(&cases, Reading { wrong: Some(misreading) });
+        let what = format!("{group}: {misreading:?}: {text}");
+        match (lines.first(), wrong::equivalent(misreading)) {
+            (Some(first), None) => {
+                found += 1;
+                println!("caught by {:5} cases, first line {first:5}: {what}", lines.len());
+            }
+            (None, Some(reason)) => match found_at_random(count, Reading { wrong: Some(misreading) }) {
+                None => {
+                    equal += 1;
+                    println!("equivalent: {what}: {reason}");
+                }
+                Some(case) => {
+                    bad += 1;
+                    println!("NOT EQUIVALENT, by {}: {what}: {reason}", alone(&case));
+                }
+            },
+            (Some(first), Some(reason)) => {
+                bad += 1;
+                println!("NOT EQUIVALENT, line {first}: {what}: {reason}");
+            }
+            (None, None) => {
+                bad += 1;
+                println!("NOT CAUGHT: {what}");
+            }
+        }
+    }
+    println!("{found} misreadings caught, {equal} equivalent, {bad} failures");
+    std::process::exit((bad > 0) as i32)
+}

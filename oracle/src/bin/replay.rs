@@ -1,0 +1,35 @@
+//! replay [FILE]: puts the cases of a file of vectors ('-': of standard input) to the static library that
+//! TRAY_LIB named at the build, or else to the restatement, and prints each line that is answered otherwise.
+
+use oracle::compare::{agrees, answered};
+use oracle::lines::{Case, Reader, alone};
+use oracle::ours;
+use oracle::request::Side;
+use oracle::restated::{Reading, Restated};
+
+fn main() {
+    let default = concat!(env!("CARGO_MANIFEST_DIR"), "/../crates/vectors/data/vectors.txt").to_string();
+    let path = std::env::args().nth(1).unwrap_or(default);
+    let text = match path.as_str() {
+        "-" => std::io::read_to_string(std::io::stdin()),
+        file => std::fs::read_to_string(file),
+    };
+    let text = text.unwrap_or_else(|e| panic!("{path}: {e}"));
+    let side: Box<dyn Side> = ours::linked().unwrap_or(Box::new(Restated { reading: Reading::RIGHT }));
+    let mut reader = Reader::default();
+    let (mut cases, mut bad) = (0, 0);
+    for (i, line) in text.lines().enumerate() {
+        let case = reader.case(line).unwrap_or_else(|e| panic!("{path}, line {}: {e}", i + 1));
+        let Some(case) = case else { continue };
+        cases += 1;
+        if !agrees(&*side, &case) {
+            bad += 1;
+            println!("line {}: {}", i + 1, alone(&case));
+            if let Some(got) = answered(&*side, &case.request) {
+                println!("answered: {}", alone(&Case { request: case.request, expected: got }));
+            }
+        }
+    }
+    println!("{cases} cases, {bad} answered otherwise");
+    std::process::exit((bad > 0) as i32)
+}
