@@ -3,7 +3,7 @@
 //! named as equivalent: then every line must, and COUNT random compositions besides. Ends with a count, and
 //! with status 1 if any of this fails.
 
-use oracle::compare::{agrees, expected};
+use oracle::compare::{agrees, answered, expected};
 use oracle::lines::{Case, Reader, alone};
 use oracle::random::Random;
 use oracle::restated::{Reading, Restated, wrong};
@@ -19,10 +19,19 @@ fn cases(path: &str) -> Vec<(usize, Case)> {
     read.collect()
 }
 
-/// The lines on which a reading disagrees.
-fn caught(cases: &[(usize, Case)], reading: Reading) -> Vec<usize> {
+/// The lines on which a reading answers otherwise; the second list has those on which it runs out of a list's
+/// bounds and gives no answer.
+fn caught(cases: &[(usize, Case)], reading: Reading) -> (Vec<usize>, Vec<usize>) {
     let side = Restated { reading };
-    cases.iter().filter(|(_, case)| !agrees(&side, case)).map(|(line, _)| *line).collect()
+    let (mut otherwise, mut none) = (Vec::new(), Vec::new());
+    for (line, case) in cases {
+        match answered(&side, &case.request) {
+            Some(outcome) if outcome == case.expected => {}
+            Some(_) => otherwise.push(*line),
+            None => none.push(*line),
+        }
+    }
+    (otherwise, none)
 }
 
 /// A random composition on which a reading disagrees.
@@ -36,18 +45,19 @@ fn main() {
     let default = concat!(env!("CARGO_MANIFEST_DIR"), "/../crates/vectors/data/vectors.txt").to_string();
     let cases = cases(&std::env::args().nth(1).unwrap_or(default));
     let count: u64 = std::env::args().nth(2).and_then(|n| n.parse().ok()).unwrap_or(0);
-    // A misreading may run out of a list's bounds: that counts as an answer that is wrong.
     std::panic::set_hook(Box::new(|_| {}));
-    let right = caught(&cases, Reading::RIGHT);
+    let (right, none) = caught(&cases, Reading::RIGHT);
+    let right = [right, none].concat();
     println!("no misreading: {} of {} cases disagree {right:?}", right.len(), cases.len());
     let (mut found, mut equal, mut bad) = (0, 0, right.len());
     for (misreading, group, text) in wrong::all() {
-        let lines = caught(&cases, Reading { wrong: Some(misreading) });
+        let (lines, none) = caught(&cases, Reading { wrong: Some(misreading) });
         let what = format!("{group}: {misreading:?}: {text}");
-        match (lines.first(), wrong::equivalent(misreading)) {
+        match (lines.first().or(none.first()), wrong::equivalent(misreading)) {
             (Some(first), None) => {
                 found += 1;
-                println!("caught by {:5} cases, first line {first:5}: {what}", lines.len());
+                let (n, no_answer) = (lines.len(), none.len());
+                println!("caught by {n:5} cases and {no_answer:3} with no answer, first line {first:5}: {what}");
             }
             (None, Some(reason)) => match found_at_random(count, Reading { wrong: Some(misreading) }) {
                 None => {
