@@ -1,2 +1,4 @@
+mod Outcomes
 pub mod Parts
 pub mod Pixels
+pub mod Placed

@@ -2,7 +2,7 @@
 use mathlib.Core.Path.{_≡_, sym}
 use mathlib.Core.Bool.{Bool}
 use Prim.Native.Nat.{ℕ, zero, suc, _+_, _*_, _/_, _%_, _<_, _≤_}
-use native.Mathlib.Nat.{zero-mul, mul-zero, mod-lt, div-lt-iff-lt-mul, mul-comm, mul-le-mul}
+use native.Mathlib.Nat.{zero-mul, mul-zero, mod-lt, div-lt-iff-lt-mul, mul-comm, mul-le-mul, mul-le-mul-left}
 use native.Mathlib.Omega.{arith}
 use Rattle.places.specs.Bounds.{slack, Reached, Under}
 use Rattle.places.specs.Spots.{sourceIndex}
@@ -60,3 +60,18 @@ at-run p picture channels from count i r h = record {
 -- a run's pixels are few enough to be counted
 pub run-small : (p : Plan) (picture channels from count : ℕ) → Run p picture channels from count → from + count ≤ slack * slack
 run-small p picture channels from count r = omega (arith, r .inside, mul-le-mul (r .width) (r .height))
+
+-- its words lie in the picture
+pub run-words : (p : Plan) (picture channels from count : ℕ) → Run p picture channels from count → channels * (from + count) ≤ picture
+run-words p picture channels from count r = rw (r .whole, mul-comm (p .dw * p .dh) channels) (mul-le-mul-left channels (r .inside))
+
+-- a part of a run
+pub run-part : (p : Plan) (picture channels total from count : ℕ) → Run p picture channels 0 total → from + count ≤ total → Run p picture channels from count
+run-part p picture channels total from count r h = record {
+  width = r .width;
+  height = r .height;
+  some = r .some;
+  most = r .most;
+  whole = r .whole;
+  inside = omega (arith, r .inside);
+}

@@ -1,3 +1,4 @@
 pub mod Arguments
 pub mod Compose
 pub mod Ready
+pub mod Single

@@ -13,7 +13,7 @@ use operators::CompositeOp;
 use operators::Numbered;
 use places::Gravity;
 
-mod cells;
+pub mod cells;
 
 // Which channels a layer writes.
 pub struct ChannelMask {

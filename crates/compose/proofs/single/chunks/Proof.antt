@@ -1,0 +1,105 @@
+-- `compose::single::chunks` meets its contract. The loop's invariant: the first j pixels of out are composed, and the rest is as it was. The measure is
+-- the pixels left. Assumes nothing.
+use Rattle.compose.proofs.Parts.{chunk-more, length-filled, filled-all}
+use mathlib.Core.Path.{_≡_, refl, _∙_, ap}
+use Prim.Native.Nat.{_≤_, _-_, _+_, _*_}
+use native.Mathlib.Omega.{arith}
+use borrow.Author.Needs.{needs}
+use lib.ListN.{length, length-take, length-drop}
+use Rattle.pictures.specs.Widen.{rgbaAt, valuesOf}
+use Rattle.pictures.specs.FlatWords.{flat, filled}
+use Rattle.compose.specs.Compose.{composedBy}
+use Rattle.compose.proofs.Pixels.{run-part, run-small}
+use Rattle.compose.proofs.single.chunks.Statement.{statement}
+use Rattle.compose.proofs.single.chunks.Tie as tie
+
+abbrev Inv-loop : tie.InvT-loop
+Inv-loop p source dst channels total out₀ j₀ out j =
+    (j ≤ total)
+    × (out ≡ filled (λ n. composedBy p source (λ k. valuesOf (rgbaAt dst channels k)) (rgbaAt dst channels n) n) j out₀)
+    × (length out ≡ length out₀)
+
+abbrev μ-loop : tie.MeasureT-loop
+μ-loop p source dst channels total out₀ j₀ out j = total - j
+
+loop-holds : tie.Need-loop-holds Inv-loop μ-loop
+unfolding flat
+loop-holds c = (omega arith, refl, refl)
+
+sub-least : tie.Need-sub-least Inv-loop μ-loop
+sub-least c = omega arith
+
+least-requires : tie.Need-least-requires Inv-loop μ-loop
+least-requires c κs = tt
+
+mul-at : tie.Need-mul-at Inv-loop μ-loop
+mul-at c = search needs
+
+mul-chunk : tie.Need-mul-chunk Inv-loop μ-loop
+mul-chunk c = search needs
+
+sub-chunk : tie.Need-sub-chunk Inv-loop μ-loop
+sub-chunk c = search needs
+
+part-chunk-start : tie.Need-part-chunk-start Inv-loop μ-loop
+part-chunk-start c = search needs
+
+part-chunk-end : tie.Need-part-chunk-end Inv-loop μ-loop
+part-chunk-end c = search needs
+
+chunk-requires : tie.Need-chunk-requires Inv-loop μ-loop
+chunk-requires c κs =
+    let s = c .before .before .before .before .before .before .before in
+    let l = c .before .before .before .loop in
+    let n : c .before .least .result ≤ 64 = omega (arith, c .before .least .ensures) in
+    let m : c .before .least .result ≤ s .args .total - l .j = omega (arith, c .before .least .ensures) in
+    (s .pre .0, run-part _ _ _ _ _ _ (s .pre .1) (omega arith), n, simp (length-take, length-drop) (omega (arith, l .inv .2, s .pre .2)))
+
+add-j : tie.Need-add-j Inv-loop μ-loop
+add-j c =
+    let k = c .before .before .before .before in
+    let s = k .before .before .before .before .before .before in
+    record { fits = omega (arith, k .least .ensures, run-small _ _ _ _ _ (s .pre .1)) }
+
+loop-less : tie.Need-loop-less Inv-loop μ-loop
+loop-less c = omega (arith, c .before .before .before .before .least .ensures)
+
+loop-again : tie.Need-loop-again Inv-loop μ-loop
+loop-again c =
+    let k = c .before .before in
+    let l = k .before .before .before .before in
+    let s = l .before .before .before .before in
+    let m : k .before .before .least .result ≤ s .args .total - l .loop .j = omega (arith, k .before .before .least .ensures) in
+    let n = l .loop .j + k .before .before .least .result in
+    let e = chunk-more _ (l .loop .j) (k .before .before .least .result) (s .args .out .now) (l .loop .out) _ (l .loop .inv .1) (l .loop .inv .2) (omega (arith, s .pre .2)) (k .chunk .ensures) in
+    (omega arith, e, ap length e ∙ length-filled _ n (s .args .out .now) (omega (arith, s .pre .2)))
+
+same-length : tie.Need-same-length Inv-loop μ-loop
+same-length c = c .before .loop .inv .2
+
+returns : tie.Need-returns Inv-loop μ-loop
+returns c =
+    let s = c .before .before .before .before .before in
+    let e : c .before .loop .j ≡ s .args .total = omega arith in
+    c .before .loop .inv .1 ∙ rw e (filled-all _ (s .args .total) (s .args .out .now) (s .pre .2))
+
+pub chunks-spec : {M : Type 1} → statement M
+chunks-spec =
+    tie.close
+    (tie.spec
+    Inv-loop
+    μ-loop
+    loop-holds
+    sub-least
+    least-requires
+    mul-at
+    mul-chunk
+    sub-chunk
+    part-chunk-start
+    part-chunk-end
+    chunk-requires
+    add-j
+    loop-less
+    loop-again
+    same-length
+    returns)

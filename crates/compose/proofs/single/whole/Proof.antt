@@ -1,0 +1,76 @@
+-- `compose::single::whole` meets its contract: the part that is lent is the source, and the plan is the layer's. Assumes nothing.
+use mathlib.Core.Path.{_≡_, _∙_}
+use Prim.Native.Nat.{_+_, _-_, _*_}
+use native.Mathlib.Omega.{arith}
+use Rattle.compose.proofs.Placed.{plane, part-length, ready, runs}
+use borrow.Author.Needs.{needs}
+use Rattle.compose.proofs.single.whole.Statement.{statement}
+use Rattle.compose.proofs.single.whole.Tie as tie
+
+plan-requires : tie.Need-plan-requires
+plan-requires c κs = search needs
+
+mul-end : tie.Need-mul-end
+mul-end c =
+    let g = c .before .before .before .before .before .before .pre .0 in
+    record { fits = omega (arith, plane _ _ (g .width) (g .height)) }
+
+mul-end-2 : tie.Need-mul-end-2
+mul-end-2 c = search needs
+
+add-end : tie.Need-add-end
+add-end c = search needs
+
+mul-chunks : tie.Need-mul-chunks
+mul-chunks c = search needs
+
+sub-chunks : tie.Need-sub-chunks
+sub-chunks c = search needs
+
+part-chunks-start : tie.Need-part-chunks-start
+part-chunks-start c = search needs
+
+part-chunks-end : tie.Need-part-chunks-end
+part-chunks-end c = search needs
+
+mul-chunks-2 : tie.Need-mul-chunks-2
+mul-chunks-2 c =
+    let m = c .before .before .before .before .before .before .before .before .pre .1 in
+    record { fits = omega (arith, plane _ _ (m .dst-width) (m .dst-height)) }
+
+chunks-requires : tie.Need-chunks-requires
+chunks-requires c κs =
+    let p = c .before .before .before .before .before in
+    let s = p .before .before .before .before in
+    let g = s .pre .0 in (
+      ready (s .args .l) (s .args .dw) (s .args .dh) _ g (s .pre .1) (p .plan .result) _ (p .plan .ensures) (part-length (s .args .samples .now) _ _ (g .held)),
+      runs (s .args .l) (s .args .dw) (s .args .dh) _ g (s .pre .1) (p .plan .result) _ _ (p .plan .ensures) (s .pre .2) (s .pre .3) (s .pre .4),
+      s .pre .5,
+    )
+
+same-length : tie.Need-same-length
+same-length c = search needs
+
+returns : tie.Need-returns
+returns c =
+    let k = c .before .before in
+    let s = k .before .before .before .before .before .before .before .before .before .before in
+    let e : s .args .l .source .first + s .args .l .source .width * s .args .l .source .height * s .args .l .source .channels - s .args .l .source .first ≡ s .args .l .source .width * s .args .l .source .height * s .args .l .source .channels = omega arith in
+    k .chunks .ensures ∙ rw (e, k .before .before .before .before .before .before .plan .ensures)
+
+pub whole-spec : {M : Type 1} → statement M
+whole-spec =
+    tie.close
+    (tie.spec
+    plan-requires
+    mul-end
+    mul-end-2
+    add-end
+    mul-chunks
+    sub-chunks
+    part-chunks-start
+    part-chunks-end
+    mul-chunks-2
+    chunks-requires
+    same-length
+    returns)

@@ -1,0 +1,116 @@
+// The single composition: one layer on a destination of one, three or four channels, into a lent output of four.
+ghost use mathlib.Core.Path.{_≡_};
+ghost use Prim.Native.Nat.{_+_, _*_, _<_, _≤_, min};
+ghost use lib.IntN.{pos};
+ghost use lib.ListN.{length};
+ghost use Rattle.layers.specs.Inputs.{inputsOf};
+ghost use Rattle.layers.proofs.Accepted.{GoodLayer};
+ghost use Rattle.places.specs.Bounds.{Measured};
+ghost use Rattle.pictures.specs.Widen.{rgbaAt, valuesOf};
+ghost use Rattle.pictures.specs.FlatWords.{flat, filled};
+ghost use Rattle.compose.specs.Compose.{composedBy, composedOf};
+ghost use Rattle.compose.specs.Ready.{Ready, Run};
+ghost use Rattle.compose.specs.Single.{answered, composeOf};
+use crate::Plan;
+use crate::cell::plan;
+use crate::run::run;
+use layers::Layer;
+use layers::cells::natural;
+use layers::check;
+use pictures::flat::widen;
+
+// The pixels that are widened at a time.
+const CHUNK: usize = 64;
+
+// WORK, the number of an output that is too short or too long.
+const REFUSED: u64 = 9;
+
+pub fn least(a: usize, b: usize) -> usize
+    ensures { λ r. ⌜ r ≡ min a b ⌝ }
+{
+    if a < b {
+        return a;
+    }
+    b
+}
+
+// Pixels from .. from + count, at the front of out: their own pixels are widened into a buffer first.
+fn chunk(
+    p: Plan,
+    source: &[u32],
+    dst: &[u32],
+    channels: usize,
+    from: usize,
+    count: usize,
+    out: &mut [u32],
+)
+    requires { ⌜ (Ready p (length (now source))) × (Run p (length (now dst)) channels from count) × (count ≤ 64) × (4 * count ≤ length (now out)) ⌝ }
+    ensures { λ _. ⌜ now (out .exit) ≡ filled (λ i. composedBy p (now (source .entry)) (λ k. valuesOf (rgbaAt (now (dst .entry)) channels k)) (rgbaAt (now (dst .entry)) channels (from + i)) (from + i)) count (now (out .entry)) ⌝ }
+{
+    let mut own = [0u32; 256];
+    widen(dst, channels, from, count, &mut own);
+    run(p, source, dst, channels, &own, from, count, out);
+}
+
+// The whole picture, chunk by chunk.
+fn chunks(p: Plan, source: &[u32], dst: &[u32], channels: usize, total: usize, out: &mut [u32])
+    requires { ⌜ (Ready p (length (now source))) × (Run p (length (now dst)) channels 0 total) × (length (now out) ≡ 4 * total) ⌝ }
+    ensures { λ _. ⌜ now (out .exit) ≡ flat (λ j. composedBy p (now (source .entry)) (λ k. valuesOf (rgbaAt (now (dst .entry)) channels k)) (rgbaAt (now (dst .entry)) channels j) j) 0 total ⌝ }
+{
+    let mut j = 0;
+    while j < total {
+        let count = least(CHUNK, total - j);
+        let at = 4 * j;
+        chunk(p, source, dst, channels, j, count, &mut out[at..]);
+        j += count;
+    }
+}
+
+// A layer on a destination of dw by dh pixels.
+fn whole(
+    l: Layer,
+    dw: usize,
+    dh: usize,
+    channels: usize,
+    dst: &[u32],
+    samples: &[u32],
+    out: &mut [u32],
+)
+    requires { ⌜ (GoodLayer (length (now samples)) l) × (Measured dw dh (l .source .width) (l .source .height) (l .right) (l .down)) × (1 ≤ channels) × (channels ≤ 4) × (length (now dst) ≡ dw * dh * channels) × (length (now out) ≡ 4 * (dw * dh)) ⌝ }
+    ensures { λ _. ⌜ now (out .exit) ≡ composedOf (now (samples .entry)) l dw dh channels (now (dst .entry)) ⌝ }
+{
+    let p = plan(l, dw, dh);
+    let source = l.source;
+    let first = source.first;
+    let end = first + source.width * source.height * source.channels;
+    chunks(p, &samples[first..end], dst, channels, dw * dh, out);
+}
+
+// One layer on one destination: 0 and the whole picture in out, or the number of the first fault and out as it was.
+pub fn compose(
+    width: i64,
+    height: i64,
+    channels: i64,
+    dst: &[u32],
+    table: &[i64],
+    args: &[u32],
+    samples: &[u32],
+    out: &mut [u32],
+) -> u64
+    ensures { λ r. ⌜ answered r (now (out .exit)) ≡ composeOf (inputsOf width height channels (now (dst .entry)) (pos 1) (now (table .entry)) (now (args .entry)) (now (samples .entry))) (now (out .entry)) ⌝ }
+{
+    let v = check(width, height, channels, dst, 1, table, args, samples);
+    let number = v.number;
+    if number != 0 {
+        return number;
+    }
+    let dw = natural(width);
+    let dh = natural(height);
+    let size = 4 * (dw * dh);
+    if out.len() != size {
+        return REFUSED;
+    }
+    let depth = natural(channels);
+    whole(Layer::at(table, args, 0), dw, dh, depth, dst, samples, out);
+    0
+}
