@@ -1,0 +1,100 @@
+// Narrowing: a picture of four channels, lent as words, into a lent output of one, three or four channels, as words or as bytes
+// (`to_channels`, `luma` and `narrow_u8` of deep.rs). A call answers a number, 0 or 11, and writes nothing where that is 11.
+// The contracts cite specs/Luma and specs/Narrow.
+ghost use mathlib.Core.Path.{_≡_};
+ghost use Prim.Native.Nat.{_*_, _/_, _<_};
+ghost use lib.ListN.{length, getD};
+ghost use Rattle.narrowing.specs.Luma.{lumaOf};
+ghost use Rattle.narrowing.specs.Narrow.{narrowedOf, narrowFault, narrowed, narrowOf, narrowBytesOf, channelsOf, Wanted};
+use float_steps::whole::byte;
+use float_steps::words::value;
+use float_steps::words::word;
+use pictures::Rgba;
+use pictures::widen::rgba_at;
+use pictures::widen::values;
+
+// The gray of a pixel.
+pub fn luma(p: Rgba) -> f32
+    ensures { λ r. ⌜ r ≡ lumaOf p ⌝ }
+{
+    0.299 * p.r + 0.587 * p.g + 0.114 * p.b
+}
+
+// Word i of the narrowed picture.
+fn narrowed_at(wanted: usize, input: &[u32], i: usize) -> u32
+    requires { ⌜ Wanted wanted × (i < length (now input) / 4 * wanted) ⌝ }
+    ensures { λ r. ⌜ r ≡ getD (narrowedOf wanted (now (input .entry))) i 0 ⌝ }
+{
+    if wanted == 1 {
+        return word(luma(values(rgba_at(input, 4, i))));
+    }
+    if wanted == 3 {
+        return input[4 * (i / 3) + i % 3];
+    }
+    input[i]
+}
+
+// The channels wanted; 0 where they are none of 1, 3 and 4.
+fn channels_of(wanted: i64) -> usize
+    ensures { λ r. ⌜ r ≡ channelsOf wanted ⌝ }
+{
+    if wanted == 1 {
+        return 1;
+    }
+    if wanted == 3 {
+        return 3;
+    }
+    if wanted == 4 { 4 } else { 0 }
+}
+
+// 11 where the channels wanted or the lengths of the input and the output are refused, and 0 otherwise.
+fn fault(wanted: i64, input: usize, output: usize) -> u64
+    ensures { λ r. ⌜ r ≡ narrowFault wanted input output ⌝ }
+{
+    let channels = channels_of(wanted);
+    if channels == 0 {
+        return 11;
+    }
+    if input % 4 != 0 {
+        return 11;
+    }
+    if output == input / 4 * channels {
+        0
+    } else {
+        11
+    }
+}
+
+// The input narrowed to the channels wanted.
+pub fn narrow(wanted: i64, input: &[u32], output: &mut [u32]) -> u64
+    ensures { λ r. ⌜ narrowed r (now (output .exit)) ≡ narrowOf wanted (now (input .entry)) (now (output .entry)) ⌝ }
+{
+    let number = fault(wanted, input.len(), output.len());
+    if number != 0 {
+        return number;
+    }
+    let channels = channels_of(wanted);
+    let mut i = 0;
+    while i < output.len() {
+        output[i] = narrowed_at(channels, input, i);
+        i += 1;
+    }
+    0
+}
+
+// The same as bytes.
+pub fn narrow_bytes(wanted: i64, input: &[u32], output: &mut [u8]) -> u64
+    ensures { λ r. ⌜ narrowed r (now (output .exit)) ≡ narrowBytesOf wanted (now (input .entry)) (now (output .entry)) ⌝ }
+{
+    let number = fault(wanted, input.len(), output.len());
+    if number != 0 {
+        return number;
+    }
+    let channels = channels_of(wanted);
+    let mut i = 0;
+    while i < output.len() {
+        output[i] = byte(value(narrowed_at(channels, input, i)));
+        i += 1;
+    }
+    0
+}
