@@ -13,7 +13,7 @@ use borrow.Author.Tests.{eq-eqb, ne-eqb, eqb-true}
 use Rattle.layers.specs.Cells.{natOf, badChannels}
 use Rattle.layers.specs.Faults.{faultIf}
 use Rattle.layers.proofs.Ranges.{channelled, channels-most, both-fail, not-fails}
-use Rattle.narrowing.specs.Narrow.{narrowedOf, narrowFault, Narrowed, narrowed, answered, channelsOf, Wanted}
+use Rattle.narrowing.specs.Narrow.{narrowedOf, narrowFault, Narrowed, narrowed, answered, channelsOf, acceptedOf, Wanted}
 use Rattle.narrowing.proofs.Filling.{Filling, filling-all}
 use Rattle.narrowing.proofs.Narrowed.{length-narrowed}
 
@@ -24,47 +24,55 @@ unfolding channelsOf badChannels
 none-of (pos n) a b c = rw (ne-eqb n 1 (λ e. a (ap pos e)), ne-eqb n 3 (λ e. b (ap pos e)), ne-eqb n 4 (λ e. c (ap pos e)))
 none-of (negsuc n) a b c = refl
 
--- ---- what the channels tell
-
-pub refused : (z : ℤ) → channelsOf z ≡ 0 → badChannels z ≡ true
+pub most : (z : ℤ) → channelsOf z ≤ 4
 unfolding channelsOf
-refused z e = by (badChannels z) refl e
+most z = by (badChannels z) refl
   where
-    by : (t : Bool) → badChannels z ≡ t → cond t 0 (natOf z) ≡ 0 → t ≡ true
-    by true f e = refl
-    by false f e = ⊎-elim (λ a. absurd (omega arith)) (λ v. ⊎-elim (λ a. absurd (omega arith)) (λ a. absurd (omega arith)) v) (channelled z f .kind)
+    by : (t : Bool) → badChannels z ≡ t → cond t 0 (natOf z) ≤ 4
+    by true e = omega arith
+    by false e = channels-most (natOf z) (channelled z e .kind)
 
-pub good : (z : ℤ) → badChannels z ≡ false → (channelsOf z ≡ natOf z) × Wanted (channelsOf z)
-unfolding channelsOf
-good z e = rw e (refl, channelled z e .kind)
+-- ---- accepted or not
 
-pub some : (z : ℤ) → (channelsOf z ≡ 0 → ⊥) → badChannels z ≡ false
-unfolding channelsOf
-some z h = by (badChannels z) refl h
+-- as the code tests it
+pub accepted-by : (z : ℤ) (n m : ℕ) → cond (eqb (n % 4) 0) (cond (eqb m (n / 4 * channelsOf z)) (channelsOf z) 0) 0 ≡ acceptedOf z n m
+unfolding channelsOf acceptedOf narrowFault
+accepted-by z n m = by (badChannels z)
   where
-    by : (t : Bool) → badChannels z ≡ t → (cond t 0 (natOf z) ≡ 0 → ⊥) → t ≡ false
-    by true f h = absurd (h refl)
-    by false f h = refl
+    none : (a b : Bool) → _≡_ {A = ℕ} (cond a (cond b 0 0) 0) 0
+    none true true = refl
+    none true false = refl
+    none false b = refl
 
--- the narrowed words are no more than the words
-pub words-most : (z : ℤ) (n : ℕ) → (channelsOf z ≡ 0 → ⊥) → n / 4 * channelsOf z ≤ n
-words-most z n h =
-    let m : n / 4 * channelsOf z ≤ n / 4 * 4 = mul-le-mul-left (n / 4) (channels-most (channelsOf z) (good z (some z h) .1)) in
-    omega arith
+    some : (a b : Bool) (k : ℕ) → cond a (cond b k 0) 0 ≡ cond (eqb (faultIf (not a || not b) 11) 0) k 0
+    some true true k = refl
+    some true false k = refl
+    some false b k = refl
 
--- ---- the fault
+    by : (t : Bool) → cond (eqb (n % 4) 0) (cond (eqb m (n / 4 * cond t 0 (natOf z))) (cond t 0 (natOf z)) 0) 0 ≡ cond (eqb (faultIf (t || not (eqb (n % 4) 0) || not (eqb m (n / 4 * natOf z))) 11) 0) (natOf z) 0
+    by true = none (eqb (n % 4) 0) (eqb m (n / 4 * 0))
+    by false = some (eqb (n % 4) 0) (eqb m (n / 4 * natOf z)) (natOf z)
 
-pub fault-refused : (z : ℤ) (n m : ℕ) → channelsOf z ≡ 0 → 11 ≡ narrowFault z n m
-unfolding narrowFault
-fault-refused z n m e = rw (refused z e)
+-- the three tests
+abbrev refuses : ℤ → ℕ → ℕ → Bool
+refuses z n m = badChannels z || not (eqb (n % 4) 0) || not (eqb m (n / 4 * natOf z))
 
-pub fault-by : (z : ℤ) (n m : ℕ) → (channelsOf z ≡ 0 → ⊥) → faultIf (not (eqb (n % 4) 0) || not (eqb m (n / 4 * channelsOf z))) 11 ≡ narrowFault z n m
-unfolding narrowFault
-fault-by z n m h = rw (some z h, good z (some z h) .0)
+-- what is known where they fail: there are channels wanted of the input, and the output has room for just them
+passed : (z : ℤ) (n m : ℕ) → refuses z n m ≡ false → Wanted (natOf z) × (n / 4 * natOf z ≡ m)
+passed z n m e =
+    let a = badChannels z in
+    let b = not (eqb (n % 4) 0) in
+    let p = both-fail (a || b) (not (eqb m (n / 4 * natOf z))) e in
+    (channelled z (both-fail a b (p .0) .0) .kind, sym (eqb-true _ _ (not-fails _ (p .1))))
 
--- ---- what is known where there is none
+refused : (z : ℤ) (n m : ℕ) → acceptedOf z n m ≡ 0 → narrowFault z n m ≡ 11
+unfolding acceptedOf narrowFault
+refused z n m h = by (refuses z n m) refl h
+  where
+    by : (t : Bool) → refuses z n m ≡ t → cond (eqb (faultIf t 11) 0) (natOf z) 0 ≡ 0 → faultIf t 11 ≡ 11
+    by true e h = refl
+    by false e h = ⊎-elim (λ a. absurd (omega arith)) (λ v. ⊎-elim (λ a. absurd (omega arith)) (λ a. absurd (omega arith)) v) (passed z n m e .0)
 
--- k channels are wanted of the input, and the output has room for just them
 pub record Accepted (z : ℤ) (k : ℕ) (input output : List ℕ) : Type 0 where
   pub none : narrowFault z (length input) (length output) ≡ 0
   pub natural : k ≡ natOf z
@@ -72,30 +80,24 @@ pub record Accepted (z : ℤ) (k : ℕ) (input output : List ℕ) : Type 0 where
   pub room : length input / 4 * k ≡ length output
   pub whole : length (narrowedOf k input) ≡ length output
 
--- by what the code asked: of the same number z, through its bits
-pub accepted : (z y : ℤ) (fault k : ℕ) (input output : List ℕ) → y ≡ z → fault ≡ narrowFault y (length input) (length output) → k ≡ channelsOf y → fault ≡ 0 → Accepted z k input output
-unfolding narrowFault
-accepted z y fault k input output same asked channels e =
-    let a = badChannels z in
-    let b = not (eqb (length input % 4) 0) in
-    let d = not (eqb (length output) (length input / 4 * natOf z)) in
-    let n : narrowFault z (length input) (length output) ≡ 0 = rw (← same) (sym asked ∙ e) in
-    let p = both-fail (a || b) d (passed (a || b || d) n) in
-    let g = good z (both-fail a b (p .0) .0) in
-    let h : k ≡ channelsOf z = channels ∙ ap channelsOf same in
-    let r : length input / 4 * k ≡ length output = rw (h, g .0) (sym (eqb-true _ _ (not-fails _ (p .1)))) in
-    let w : Wanted k = rw h (g .1) in
-    record { none = n; natural = h ∙ g .0; wanted = w; room = r; whole = length-narrowed k input w ∙ r }
+-- k is what the code asked of the same number z, through its bits
+pub accepted : (z y : ℤ) (k : ℕ) (input output : List ℕ) → y ≡ z → k ≡ acceptedOf y (length input) (length output) → (k ≡ 0 → ⊥) → Accepted z k input output
+unfolding acceptedOf narrowFault
+accepted z y k input output same asked h = by (refuses z (length input) (length output)) refl (asked ∙ ap (λ x. acceptedOf x (length input) (length output)) same)
   where
-    passed : (t : Bool) → faultIf t 11 ≡ 0 → t ≡ false
-    passed true e = absurd (omega arith)
-    passed false e = refl
+    by : (t : Bool) → refuses z (length input) (length output) ≡ t → k ≡ cond (eqb (faultIf t 11) 0) (natOf z) 0 → Accepted z k input output
+    by true e a = absurd (h a)
+    by false e a =
+        let p = passed z (length input) (length output) e in
+        let w : Wanted k = rw a (p .0) in
+        let r : length input / 4 * k ≡ length output = rw a (p .1) in
+        record { none = rw e; natural = a; wanted = w; room = r; whole = length-narrowed k input w ∙ r }
 
 -- ---- the answer
 
-pub answer-refused : (z y : ℤ) (fault : ℕ) (input new old : List ℕ) → y ≡ z → fault ≡ narrowFault y (length input) (length old) → (fault ≡ 0 → ⊥) → narrowed fault old ≡ answered (narrowFault z (length input) (length old)) new old
+pub answer-refused : (z y : ℤ) (k : ℕ) (input new old : List ℕ) → y ≡ z → k ≡ acceptedOf y (length input) (length old) → k ≡ 0 → narrowed 11 old ≡ answered (narrowFault z (length input) (length old)) new old
 unfolding answered
-answer-refused z y fault input new old same asked h = rw (← same, ← asked, ne-eqb _ _ h)
+answer-refused z y k input new old same asked e = rw (refused z (length input) (length old) (rw (← same) (sym asked ∙ e)))
 
 -- of an output that is filled with what a step makes of the narrowed words
 pub answer-accepted : (step : ℕ → ℕ) (z : ℤ) (k : ℕ) (input old out : List ℕ) (i : ℕ) → Accepted z k input old → Filling step (narrowedOf k input) old out i → length out ≤ i → narrowed 0 out ≡ answered (narrowFault z (length input) (length old)) (map step (narrowedOf (natOf z) input)) old

@@ -74,5 +74,10 @@ narrowBytesOf wanted input output =
 unfoldable pub channelsOf : ℤ → ℕ
 channelsOf wanted = cond (badChannels wanted) 0 (natOf wanted)
 
+-- the channels wanted; 0 where there is a fault
+unfoldable pub acceptedOf : ℤ → ℕ → ℕ → ℕ
+acceptedOf wanted input output = cond (eqb (narrowFault wanted input output) 0) (natOf wanted) 0
+
+-- 1, 3 or 4
 abbrev pub Wanted : ℕ → Type 0
 Wanted n = (n ≡ 1) ⊎ ((n ≡ 3) ⊎ (n ≡ 4))

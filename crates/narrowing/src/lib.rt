@@ -5,13 +5,16 @@ ghost use mathlib.Core.Path.{_≡_};
 ghost use Prim.Native.Nat.{_*_, _/_, _<_};
 ghost use lib.ListN.{length, getD};
 ghost use Rattle.narrowing.specs.Luma.{lumaOf};
-ghost use Rattle.narrowing.specs.Narrow.{narrowedOf, narrowFault, narrowed, narrowOf, narrowBytesOf, channelsOf, Wanted};
+ghost use Rattle.narrowing.specs.Narrow.{narrowedOf, narrowed, narrowOf, narrowBytesOf, channelsOf, acceptedOf, Wanted};
 use float_steps::whole::byte;
 use float_steps::words::value;
 use float_steps::words::word;
 use pictures::Rgba;
 use pictures::widen::rgba_at;
 use pictures::widen::values;
+
+// NARROW, the fault's number.
+const REFUSED: u64 = 11;
 
 // The gray of a pixel.
 pub fn luma(p: Rgba) -> f32
@@ -47,21 +50,18 @@ fn channels_of(wanted: i64) -> usize
     if wanted == 4 { 4 } else { 0 }
 }
 
-// 11 where the channels wanted or the lengths of the input and the output are refused, and 0 otherwise.
-fn fault(wanted: i64, input: usize, output: usize) -> u64
-    ensures { λ r. ⌜ r ≡ narrowFault wanted input output ⌝ }
+// The channels wanted; 0 where they, or the lengths of the input and the output, are refused.
+fn accepted(wanted: i64, input: usize, output: usize) -> usize
+    ensures { λ r. ⌜ r ≡ acceptedOf wanted input output ⌝ }
 {
     let channels = channels_of(wanted);
-    if channels == 0 {
-        return 11;
-    }
     if input % 4 != 0 {
-        return 11;
+        return 0;
     }
     if output == input / 4 * channels {
-        0
+        channels
     } else {
-        11
+        0
     }
 }
 
@@ -69,11 +69,10 @@ fn fault(wanted: i64, input: usize, output: usize) -> u64
 pub fn narrow(wanted: i64, input: &[u32], output: &mut [u32]) -> u64
     ensures { λ r. ⌜ narrowed r (now (output .exit)) ≡ narrowOf wanted (now (input .entry)) (now (output .entry)) ⌝ }
 {
-    let number = fault(wanted, input.len(), output.len());
-    if number != 0 {
-        return number;
+    let channels = accepted(wanted, input.len(), output.len());
+    if channels == 0 {
+        return REFUSED;
     }
-    let channels = channels_of(wanted);
     let mut i = 0;
     while i < output.len() {
         output[i] = narrowed_at(channels, input, i);
@@ -86,11 +85,10 @@ pub fn narrow(wanted: i64, input: &[u32], output: &mut [u32]) -> u64
 pub fn narrow_bytes(wanted: i64, input: &[u32], output: &mut [u8]) -> u64
     ensures { λ r. ⌜ narrowed r (now (output .exit)) ≡ narrowBytesOf wanted (now (input .entry)) (now (output .entry)) ⌝ }
 {
-    let number = fault(wanted, input.len(), output.len());
-    if number != 0 {
-        return number;
+    let channels = accepted(wanted, input.len(), output.len());
+    if channels == 0 {
+        return REFUSED;
     }
-    let channels = channels_of(wanted);
     let mut i = 0;
     while i < output.len() {
         output[i] = byte(value(narrowed_at(channels, input, i)));

@@ -14,26 +14,21 @@ use Rattle.narrowing.proofs.narrow.Statement.{statement}
 use Rattle.narrowing.proofs.narrow.Tie as tie
 
 abbrev Inv-loop : tie.InvT-loop
-Inv-loop wanted input output₀ number channels i₀ output i = Filling (λ w. w) (narrowedOf channels input) output₀ output i
+Inv-loop wanted input output₀ channels i₀ output i = Filling (λ w. w) (narrowedOf channels input) output₀ output i
 
 abbrev μ-loop : tie.MeasureT-loop
-μ-loop wanted input output₀ number channels i₀ output i = length output₀ - i
+μ-loop wanted input output₀ channels i₀ output i = length output₀ - i
 
-facts : (c : tie.After-channels-of Inv-loop μ-loop) → Accepted (c .before .before .before .before .before .args .wanted) (c .channels-of .result) (c .before .before .before .before .before .args .input .now) (c .before .before .before .before .before .args .output .now)
-facts c =
-    let s = c .before .before .before .before .before in
-    accepted _ _ _ _ _ _ (toZ-ofZ (s .fits .wanted)) (c .before .before .fault .ensures) (c .channels-of .ensures) (c .before .if1 .left)
+facts : (c : tie.Else1 Inv-loop μ-loop) → Accepted (c .before .before .before .before .args .wanted) (c .before .accepted .result) (c .before .before .before .before .args .input .now) (c .before .before .before .before .args .output .now)
+facts c = accepted _ _ _ _ _ (toZ-ofZ (c .before .before .before .before .fits .wanted)) (c .before .accepted .ensures) (c .if1 .left)
 
-fault-requires : tie.Need-fault-requires Inv-loop μ-loop
-fault-requires c κs = search needs
+accepted-requires : tie.Need-accepted-requires Inv-loop μ-loop
+accepted-requires c κs = search needs
 
 returns : tie.Need-returns Inv-loop μ-loop
 returns c =
     let s = c .before .before .before .before in
-    answer-refused (s .args .wanted) _ _ (s .args .input .now) _ _ (toZ-ofZ (s .fits .wanted)) (c .before .fault .ensures) (c .if1 .taken)
-
-channels-of-requires : tie.Need-channels-of-requires Inv-loop μ-loop
-channels-of-requires c κs = search needs
+    answer-refused (s .args .wanted) _ _ (s .args .input .now) _ _ (toZ-ofZ (s .fits .wanted)) (c .before .accepted .ensures) (c .if1 .taken)
 
 loop-holds : tie.Need-loop-holds Inv-loop μ-loop
 loop-holds c = filling-none _ _ _
@@ -63,7 +58,7 @@ same-length c = c .before .loop .inv .same
 
 returns-2 : tie.Need-returns-2 Inv-loop μ-loop
 returns-2 c =
-    let s = c .before .before .before .before .before .before .before in
+    let s = c .before .before .before .before .before .before in
     rw map-id at (answer-accepted (λ w. w) (s .args .wanted) _ (s .args .input .now) _ _ (c .before .loop .i) (facts (c .before .before)) (c .before .loop .inv) (c .loop-test .left))
 
 pub narrow-spec : {M : Type 1} → statement M
@@ -72,9 +67,8 @@ narrow-spec =
     (tie.spec
     Inv-loop
     μ-loop
-    fault-requires
+    accepted-requires
     returns
-    channels-of-requires
     loop-holds
     narrowed-at-requires
     mul-output
