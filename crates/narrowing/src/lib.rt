@@ -23,18 +23,26 @@ pub fn luma(p: Rgba) -> f32
     0.299 * p.r + 0.587 * p.g + 0.114 * p.b
 }
 
-// Word i of the narrowed picture.
-fn narrowed_at(wanted: usize, input: &[u32], i: usize) -> u32
-    requires { ⌜ Wanted wanted × (i < length (now input) / 4 * wanted) ⌝ }
-    ensures { λ r. ⌜ r ≡ getD (narrowedOf wanted (now (input .entry))) i 0 ⌝ }
+// A word that is kept, with all its bits.
+fn kept(input: &[u32], at: usize) -> u32
+    requires { ⌜ at < length (now input) ⌝ }
+    ensures { λ r. ⌜ r ≡ getD (now (input .entry)) at 0 ⌝ }
 {
-    if wanted == 1 {
+    input[at]
+}
+
+// Word i of the narrowed picture.
+fn narrowed_at(channels: usize, input: &[u32], i: usize) -> u32
+    requires { ⌜ Wanted channels × (i < length (now input) / 4 * channels) ⌝ }
+    ensures { λ r. ⌜ r ≡ getD (narrowedOf channels (now (input .entry))) i 0 ⌝ }
+{
+    if channels == 1 {
         return word(luma(values(rgba_at(input, 4, i))));
     }
-    if wanted == 3 {
-        return input[4 * (i / 3) + i % 3];
+    if channels == 3 {
+        return kept(input, 4 * (i / 3) + i % 3);
     }
-    input[i]
+    kept(input, i)
 }
 
 // The channels wanted; 0 where they are none of 1, 3 and 4.
