@@ -3,17 +3,16 @@ use mathlib.Core.Path.{_≡_, refl, sym, ap, _∙_}
 use mathlib.Core.Bool.{Bool, true, false, cond, not, _||_}
 use mathlib.Core.List.{List, map}
 use mathlib.Core.Logic.{⊎-elim}
-use Prim.Native.Nat.{ℕ, zero, suc, _*_, _/_, _%_, _<_, _≤_}
-use native.Mathlib.Nat.{mul-le-mul-left}
+use Prim.Native.Nat.{ℕ, _*_, _/_, _%_, _≤_}
 use native.Mathlib.Omega.{arith}
 use lib.Dec.{eqb}
 use lib.IntN.{ℤ, pos, negsuc}
 use lib.ListN.{length}
-use borrow.Author.Tests.{eq-eqb, ne-eqb, eqb-true}
+use borrow.Author.Tests.{ne-eqb, eqb-true}
 use Rattle.layers.specs.Cells.{natOf, badChannels}
 use Rattle.layers.specs.Faults.{faultIf}
 use Rattle.layers.proofs.Ranges.{channelled, channels-most, both-fail, not-fails}
-use Rattle.narrowing.specs.Narrow.{narrowedOf, narrowFault, Narrowed, narrowed, answered, channelsOf, acceptedOf, Wanted}
+use Rattle.narrowing.specs.Narrow.{narrowedOf, narrowFault, narrowed, answered, channelsOf, acceptedOf, Wanted}
 use Rattle.narrowing.proofs.Filling.{Filling, filling-all}
 use Rattle.narrowing.proofs.Narrowed.{length-narrowed}
 
@@ -34,7 +33,11 @@ most z = by (badChannels z) refl
 
 -- ---- accepted or not
 
--- as the code tests it
+-- the three tests
+abbrev refuses : ℤ → ℕ → ℕ → Bool
+refuses z n m = badChannels z || not (eqb (n % 4) 0) || not (eqb m (n / 4 * natOf z))
+
+-- as the code makes them
 pub accepted-by : (z : ℤ) (n m : ℕ) → cond (eqb (n % 4) 0) (cond (eqb m (n / 4 * channelsOf z)) (channelsOf z) 0) 0 ≡ acceptedOf z n m
 unfolding channelsOf acceptedOf narrowFault
 accepted-by z n m = by (badChannels z)
@@ -52,10 +55,6 @@ accepted-by z n m = by (badChannels z)
     by : (t : Bool) → cond (eqb (n % 4) 0) (cond (eqb m (n / 4 * cond t 0 (natOf z))) (cond t 0 (natOf z)) 0) 0 ≡ cond (eqb (faultIf (t || not (eqb (n % 4) 0) || not (eqb m (n / 4 * natOf z))) 11) 0) (natOf z) 0
     by true = none (eqb (n % 4) 0) (eqb m (n / 4 * 0))
     by false = some (eqb (n % 4) 0) (eqb m (n / 4 * natOf z)) (natOf z)
-
--- the three tests
-abbrev refuses : ℤ → ℕ → ℕ → Bool
-refuses z n m = badChannels z || not (eqb (n % 4) 0) || not (eqb m (n / 4 * natOf z))
 
 -- what is known where they fail: there are channels wanted of the input, and the output has room for just them
 passed : (z : ℤ) (n m : ℕ) → refuses z n m ≡ false → Wanted (natOf z) × (n / 4 * natOf z ≡ m)

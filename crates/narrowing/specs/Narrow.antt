@@ -21,7 +21,6 @@ use Rattle.narrowing.specs.Luma.{lumaOf}
 
 -- one pixel, by the channels wanted: its gray; red, green and blue; all four
 unfoldable pub narrowedPixel : ℕ → Words → List ℕ
-unfolding lumaOf
 narrowedPixel wanted w =
     cond (eqb wanted 1) (wordOf (lumaOf (valuesOf w)) ∷ [])
     (cond (eqb wanted 3) (w .r ∷ w .g ∷ w .b ∷ [])
@@ -29,7 +28,6 @@ narrowedPixel wanted w =
 
 -- all pixels; words that make no whole pixel are left out, as `chunks_exact` leaves them
 unfoldable pub narrowedOf : ℕ → List ℕ → List ℕ
-unfolding narrowedPixel
 narrowedOf wanted [] = []
 narrowedOf wanted (r ∷ []) = []
 narrowedOf wanted (r ∷ g ∷ []) = []

@@ -1,6 +1,5 @@
 -- `narrowing::narrow` meets its contract. The loop's invariant: the first i words of the output are those of the narrowed picture, and the rest
 -- is as it was. The measure is the words left. Assumes nothing.
-use mathlib.Core.Path.{_≡_}
 use mathlib.Core.List.{map-id}
 use Prim.Native.Nat.{_-_}
 use native.Mathlib.Omega.{arith}

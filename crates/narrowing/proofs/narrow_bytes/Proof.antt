@@ -1,6 +1,5 @@
 -- `narrowing::narrow_bytes` meets its contract. The loop's invariant: the first i bytes of the output are those of the narrowed picture, and the rest
 -- is as it was. The measure is the bytes left. Assumes nothing.
-use mathlib.Core.Path.{_≡_}
 use Prim.Native.Nat.{_-_}
 use native.Mathlib.Omega.{arith}
 use mir.Facts.{toZ-ofZ}
