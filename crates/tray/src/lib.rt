@@ -1,0 +1,61 @@
+// What a host links: the names, the single composition and narrowing, for C and Rust. Each function hands its arguments on and has the contract of
+// what it calls. A picture is lent as its words, the binary32 patterns, so that a host passes its float buffer as it is.
+ghost use mathlib.Core.Path.{_≡_};
+ghost use Prim.Native.Nat.{ℕ};
+ghost use lib.IntN.{pos};
+ghost use Rattle.names.specs.Names.{fromName};
+ghost use Rattle.layers.specs.Inputs.{inputsOf};
+ghost use Rattle.compose.specs.Single.{answered, composeOf};
+ghost use Rattle.narrowing.specs.Narrow.{narrowed, narrowOf, narrowBytesOf};
+ghost use Rattle.tray.specs.Answers.{named, nameOf};
+use names::Named;
+
+// OPERATOR, the number of a name that is not known.
+const UNKNOWN: u64 = 3;
+
+// The operator that a name spells: 0 with its number in `operator`; or 3, with `operator` as it was.
+#[no_mangle]
+pub extern "C" fn tray_from_name(name: &[u8], operator: &mut u64) -> u64
+    ensures { λ r. ⌜ named r (now (operator .exit)) ≡ nameOf (fromName (now (name .entry))) (now (operator .entry)) ⌝ }
+{
+    match names::from_name(name) {
+        Named::Operator(n) => {
+            *operator = n;
+            0
+        }
+        Named::Unknown => UNKNOWN,
+    }
+}
+
+// One layer on one destination: 0 and the whole picture in `out`; or the number of the first fault, with `out` as it was.
+#[no_mangle]
+pub extern "C" fn tray_compose(
+    width: i64,
+    height: i64,
+    channels: i64,
+    dst: &[u32],
+    table: &[i64],
+    args: &[u32],
+    samples: &[u32],
+    out: &mut [u32],
+) -> u64
+    ensures { λ r. ⌜ answered r (now (out .exit)) ≡ composeOf (inputsOf width height channels (now (dst .entry)) (pos 1) (now (table .entry)) (now (args .entry)) (now (samples .entry))) (now (out .entry)) ⌝ }
+{
+    compose::single::compose(width, height, channels, dst, table, args, samples, out)
+}
+
+// A picture of four channels narrowed to one, three or four: 0 and the whole output; or 11, with the output as it was.
+#[no_mangle]
+pub extern "C" fn tray_narrow(wanted: i64, input: &[u32], output: &mut [u32]) -> u64
+    ensures { λ r. ⌜ narrowed r (now (output .exit)) ≡ narrowOf wanted (now (input .entry)) (now (output .entry)) ⌝ }
+{
+    narrowing::narrow(wanted, input, output)
+}
+
+// The same as bytes.
+#[no_mangle]
+pub extern "C" fn tray_narrow_bytes(wanted: i64, input: &[u32], output: &mut [u8]) -> u64
+    ensures { λ r. ⌜ narrowed r (now (output .exit)) ≡ narrowBytesOf wanted (now (input .entry)) (now (output .entry)) ⌝ }
+{
+    narrowing::narrow_bytes(wanted, input, output)
+}
