@@ -8,19 +8,6 @@ use layers::Args;
 use operators::CompositeOp;
 use pixels::Params;
 
-// The numbers of the operators that read arguments, the two maps apart.
-const MATHEMATICS: u64 = 44;
-
-const BLEND: u64 = 45;
-
-const DISSOLVE: u64 = 46;
-
-const CHANGE_MASK: u64 = 62;
-
-const THRESHOLD: u64 = 64;
-
-const MODULATE: u64 = 69;
-
 // `arg`: argument i of so many, or the default where it is missing or not finite.
 fn arg(count: usize, i: usize, word: u32, default: f32) -> f32
     ensures { λ r. ⌜ r ≡ argBy count i (valueOf word) default ⌝ }
@@ -117,22 +104,22 @@ pub fn params(op: CompositeOp, args: Args) -> Params
     ensures { λ r. ⌜ r ≡ paramsOf op args ⌝ }
 {
     let n = op.number();
-    if n == BLEND {
+    if n == CompositeOp::BLEND {
         return blend_params(args);
     }
-    if n == DISSOLVE {
+    if n == CompositeOp::DISSOLVE {
         return dissolve_params(args);
     }
-    if n == CHANGE_MASK {
+    if n == CompositeOp::CHANGE_MASK {
         return mask_params(args);
     }
-    if n == THRESHOLD {
+    if n == CompositeOp::THRESHOLD {
         return threshold_params(args);
     }
-    if n == MODULATE {
+    if n == CompositeOp::MODULATE {
         return modulate_params(args);
     }
-    if n == MATHEMATICS {
+    if n == CompositeOp::MATHEMATICS {
         return raw_params(args);
     }
     if op.is_map() {

@@ -108,6 +108,18 @@ impl CompositeOp {
     pub const DISPLACE: u64 = 65;
 
     pub const DISTORT: u64 = 66;
+    // With the maps, those that read arguments.
+    pub const MATHEMATICS: u64 = 44;
+
+    pub const BLEND: u64 = 45;
+
+    pub const DISSOLVE: u64 = 46;
+
+    pub const CHANGE_MASK: u64 = 62;
+
+    pub const THRESHOLD: u64 = 64;
+
+    pub const MODULATE: u64 = 69;
 
     // The operator's place in `ALL`.
     pub fn number(self) -> u64

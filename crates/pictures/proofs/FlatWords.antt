@@ -1,15 +1,13 @@
 -- Laws of a picture's words, four a pixel: how `flat` grows, what `putOf` replaces, and which pixel stands where. Assumes nothing.
 use mathlib.Core.Path.{_≡_, refl, sym, ap, _∙_}
-use mathlib.Core.List.{List, [], _∷_, _++_, append-assoc}
-use mathlib.Core.Bool.{cond}
+use mathlib.Core.List.{List, [], _∷_, _++_, append-nil, append-assoc}
 use Prim.Native.Nat.{ℕ, zero, suc, _+_, _*_, _<_, _≤_}
-use native.Mathlib.Nat.{zero-add, add-zero, suc-add, add-suc, mul-zero, mul-suc}
-use native.Mathlib.Numerals.{add-one}
+use native.Mathlib.Nat.{zero-add, add-zero, suc-add, add-suc, add-assoc, le-of-suc-le-suc, not-suc-le-zero}
 use native.Mathlib.Omega.{arith}
-use lib.ListN.{length, getD, drop, set, length-append, length-drop, length-set}
-use lib.Seq.{drop-drop, drop-append-add}
+use lib.ListN.{length, getD, drop, set, length-append, length-drop, drop-of-length-le}
+use lib.Seq.{drop-drop, getD-drop}
 use Rattle.pictures.specs.declared.Words.{Words}
-use Rattle.pictures.specs.Widen.{rgbaAt, fourAt}
+use Rattle.pictures.specs.Widen.{rgbaAt}
 use Rattle.pictures.specs.FlatWords.{flat, filled, putOf}
 
 -- ---- flat
@@ -65,3 +63,43 @@ filled-more f i o w h e =
   where
     four-more : (i : ℕ) → 4 * i + 4 ≡ 4 * (i + 1)
     four-more i = omega arith
+
+-- a list whose first pixels are replaced keeps its length; one that is replaced whole is its pixels
+pub length-filled : (f : ℕ → Words) (n : ℕ) (o : List ℕ) → 4 * n ≤ length o → length (filled f n o) ≡ length o
+length-filled f n o h = simp (length-append, length-drop) (omega (arith, length-flat f 0 n))
+
+pub filled-all : (f : ℕ → Words) (n : ℕ) (o : List ℕ) → length o ≡ 4 * n → filled f n o ≡ flat f 0 n
+filled-all f n o h = rw (drop-of-length-le o {i = 4 * n} (omega arith), append-nil)
+
+-- ---- which pixel stands where
+
+-- pixel i of the part that begins at pixel n
+pub part-at : (l : List ℕ) (n i : ℕ) → rgbaAt (drop (4 * n) l) 4 i ≡ rgbaAt l 4 (n + i)
+unfolding rgbaAt
+part-at l n i =
+    let e : 4 * n + 4 * i ≡ 4 * (n + i) = omega arith in
+    simp (getD-drop, ← e, add-assoc)
+
+-- a pixel further on
+further : (a b c d : ℕ) (xs : List ℕ) (j x : ℕ) → getD (a ∷ b ∷ c ∷ d ∷ xs) (4 * suc j + x) 0 ≡ getD xs (4 * j + x) 0
+further a b c d xs j x = ap (λ (y : ℕ). getD (a ∷ b ∷ c ∷ d ∷ xs) y 0) four
+  where
+    four : 4 * suc j + x ≡ suc (suc (suc (suc (4 * j + x))))
+    four = omega arith
+
+rgba-further : (a b c d : ℕ) (xs : List ℕ) (j : ℕ) → rgbaAt (a ∷ b ∷ c ∷ d ∷ xs) 4 (suc j) ≡ rgbaAt xs 4 j
+unfolding rgbaAt
+rgba-further a b c d xs j =
+    let l = a ∷ b ∷ c ∷ d ∷ xs in
+    let e : getD l (4 * suc j) 0 ≡ getD xs (4 * j) 0 = rw (add-zero (4 * suc j), add-zero (4 * j)) at (further a b c d xs j 0) in
+    rw (e, further a b c d xs j 1, further a b c d xs j 2, further a b c d xs j 3)
+
+-- pixel j of n pixels f a, f (a + 1), .. and whatever follows
+pub flat-pixel : (f : ℕ → Words) (a n : ℕ) (ys : List ℕ) (j : ℕ) → j < n → rgbaAt (flat f a n ++ ys) 4 j ≡ f (a + j)
+unfolding flat rgbaAt
+flat-pixel f a zero ys j h = absurd (not-suc-le-zero h)
+flat-pixel f a (suc n) ys zero h = ap f (sym (add-zero a))
+flat-pixel f a (suc n) ys (suc j) h =
+    rgba-further (f a .r) (f a .g) (f a .b) (f a .a) (flat f (suc a) n ++ ys) j
+    ∙ flat-pixel f (suc a) n ys j (le-of-suc-le-suc h)
+    ∙ ap f (suc-add a j ∙ sym (add-suc a j))

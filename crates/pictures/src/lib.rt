@@ -1,4 +1,5 @@
-// Pictures as deep.rs has them, on lent words: one pixel widened to RGBA, the picture read between its pixels, and narrowing.
+// Pictures as deep.rs has them, on lent words: one pixel widened to RGBA, runs of them, and the picture read
+// between its pixels.
 // A picture is a list of words (binary32 patterns), row by row, `channels` of them a pixel. The definitions are in specs/.
 pub mod bilinear; // bilinear.rt: `bilinear_into`
 pub mod flat; // flat.rt: pixels written into a list of words

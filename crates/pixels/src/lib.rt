@@ -1,5 +1,6 @@
 // `pixel` of composite.rs: one pixel of the source on one of the destination, for each operator. Its contract cites specs/Pixel.antt.
-// The match is the one place where an operator is chosen; each arm is one call.
+// The match is the one place where an operator is chosen: its number, as `CompositeOp::ALL` has it, and the function that names its convention and its
+// blend. Interpolate is not carried; Displace, Distort and Blur have composite.rs's line, and composition goes another way for them.
 ghost use mathlib.Core.Path.{_≡_};
 ghost use Rattle.operators.specs.Operators.{operators, Is};
 ghost use Rattle.pixels.specs.Pixel.{pixelAt, pixelOf};
@@ -24,300 +25,90 @@ pub struct Params {
 }
 
 // A pixel, with the number of the operator whose arm gave it.
-pub struct Painted {
-    pub number: u64,
-    pub pixel: Rgba,
-}
+pub struct Painted(pub u64, pub Rgba);
 
 fn paint(op: CompositeOp, p: Params, s: Rgba, d: Rgba) -> Painted
-    ensures { λ r. ⌜ (Is operators (r .number) op) × (r .pixel ≡ pixelAt (r .number) p s d) ⌝ }
+    ensures { λ r. ⌜ (Is operators (r .0) op) × (r .1 ≡ pixelAt (r .0) p s d) ⌝ }
 {
     match op {
-        CompositeOp::Over => Painted {
-            number: 0,
-            pixel: pd::over(s, d),
-        },
-        CompositeOp::In => Painted {
-            number: 1,
-            pixel: pd::src_in(s, d),
-        },
-        CompositeOp::Out => Painted {
-            number: 2,
-            pixel: pd::src_out(s, d),
-        },
-        CompositeOp::Atop => Painted {
-            number: 3,
-            pixel: pd::atop(s, d),
-        },
-        CompositeOp::Xor => Painted {
-            number: 4,
-            pixel: pd::xor(s, d),
-        },
-        CompositeOp::Plus => Painted {
-            number: 5,
-            pixel: pd::plus(s, d),
-        },
-        CompositeOp::Multiply => Painted {
-            number: 6,
-            pixel: m::multiply(s, d),
-        },
-        CompositeOp::Screen => Painted {
-            number: 7,
-            pixel: m::screen(s, d),
-        },
-        CompositeOp::Overlay => Painted {
-            number: 8,
-            pixel: m::overlay(s, d),
-        },
-        CompositeOp::Darken => Painted {
-            number: 9,
-            pixel: m::darken(s, d),
-        },
-        CompositeOp::Lighten => Painted {
-            number: 10,
-            pixel: m::lighten(s, d),
-        },
-        CompositeOp::Difference => Painted {
-            number: 11,
-            pixel: m::difference(s, d),
-        },
-        CompositeOp::HardLight => Painted {
-            number: 12,
-            pixel: m::hard_light(s, d),
-        },
-        CompositeOp::SoftLight => Painted {
-            number: 13,
-            pixel: m::soft_light(s, d),
-        },
-        CompositeOp::ColorDodge => Painted {
-            number: 14,
-            pixel: m::color_dodge(s, d),
-        },
-        CompositeOp::ColorBurn => Painted {
-            number: 15,
-            pixel: m::color_burn(s, d),
-        },
-        CompositeOp::Clear => Painted {
-            number: 16,
-            pixel: Rgba {
+        CompositeOp::Over => Painted(0, pd::over(s, d)),
+        CompositeOp::In => Painted(1, pd::src_in(s, d)),
+        CompositeOp::Out => Painted(2, pd::src_out(s, d)),
+        CompositeOp::Atop => Painted(3, pd::atop(s, d)),
+        CompositeOp::Xor => Painted(4, pd::xor(s, d)),
+        CompositeOp::Plus => Painted(5, pd::plus(s, d)),
+        CompositeOp::Multiply => Painted(6, m::multiply(s, d)),
+        CompositeOp::Screen => Painted(7, m::screen(s, d)),
+        CompositeOp::Overlay => Painted(8, m::overlay(s, d)),
+        CompositeOp::Darken => Painted(9, m::darken(s, d)),
+        CompositeOp::Lighten => Painted(10, m::lighten(s, d)),
+        CompositeOp::Difference => Painted(11, m::difference(s, d)),
+        CompositeOp::HardLight => Painted(12, m::hard_light(s, d)),
+        CompositeOp::SoftLight => Painted(13, m::soft_light(s, d)),
+        CompositeOp::ColorDodge => Painted(14, m::color_dodge(s, d)),
+        CompositeOp::ColorBurn => Painted(15, m::color_burn(s, d)),
+        CompositeOp::Clear => Painted(
+            16,
+            Rgba {
                 r: 0.0,
                 g: 0.0,
                 b: 0.0,
                 a: 0.0,
             },
-        },
-        CompositeOp::Src => Painted {
-            number: 17,
-            pixel: s,
-        },
-        CompositeOp::Dst => Painted {
-            number: 18,
-            pixel: d,
-        },
-        CompositeOp::DstOver => Painted {
-            number: 19,
-            pixel: pd::dst_over(s, d),
-        },
-        CompositeOp::DstIn => Painted {
-            number: 20,
-            pixel: pd::dst_in(s, d),
-        },
-        CompositeOp::DstOut => Painted {
-            number: 21,
-            pixel: pd::dst_out(s, d),
-        },
-        CompositeOp::DstAtop => Painted {
-            number: 22,
-            pixel: pd::dst_atop(s, d),
-        },
-        CompositeOp::MinusDst => Painted {
-            number: 23,
-            pixel: m::minus_dst(s, d),
-        },
-        CompositeOp::MinusSrc => Painted {
-            number: 24,
-            pixel: m::minus_src(s, d),
-        },
-        CompositeOp::DivideDst => Painted {
-            number: 25,
-            pixel: m::divide_dst(s, d),
-        },
-        CompositeOp::DivideSrc => Painted {
-            number: 26,
-            pixel: m::divide_src(s, d),
-        },
-        CompositeOp::ModulusAdd => Painted {
-            number: 27,
-            pixel: m::modulus_add(s, d),
-        },
-        CompositeOp::ModulusSubtract => Painted {
-            number: 28,
-            pixel: m::modulus_subtract(s, d),
-        },
-        CompositeOp::Exclusion => Painted {
-            number: 29,
-            pixel: m::exclusion(s, d),
-        },
-        CompositeOp::LinearBurn => Painted {
-            number: 30,
-            pixel: m::linear_burn(s, d),
-        },
-        CompositeOp::LinearDodge => Painted {
-            number: 31,
-            pixel: m::linear_dodge(s, d),
-        },
-        CompositeOp::LinearLight => Painted {
-            number: 32,
-            pixel: m::linear_light(s, d),
-        },
-        CompositeOp::VividLight => Painted {
-            number: 33,
-            pixel: m::vivid_light(s, d),
-        },
-        CompositeOp::PinLight => Painted {
-            number: 34,
-            pixel: m::pin_light(s, d),
-        },
-        CompositeOp::HardMix => Painted {
-            number: 35,
-            pixel: m::hard_mix(s, d),
-        },
-        CompositeOp::PegtopLight => Painted {
-            number: 36,
-            pixel: m::pegtop_light(s, d),
-        },
-        CompositeOp::SoftBurn => Painted {
-            number: 37,
-            pixel: m::soft_burn(s, d),
-        },
-        CompositeOp::SoftDodge => Painted {
-            number: 38,
-            pixel: m::soft_dodge(s, d),
-        },
-        CompositeOp::Stamp => Painted {
-            number: 39,
-            pixel: m::stamp(s, d),
-        },
-        CompositeOp::Freeze => Painted {
-            number: 40,
-            pixel: m::freeze(s, d),
-        },
-        CompositeOp::Reflect => Painted {
-            number: 41,
-            pixel: m::reflect(s, d),
-        },
-        CompositeOp::Negate => Painted {
-            number: 42,
-            pixel: m::negate(s, d),
-        },
-        CompositeOp::Interpolate => Painted {
-            number: 43,
-            pixel: d,
-        },
-        CompositeOp::Mathematics => Painted {
-            number: 44,
-            pixel: m::mathematics(p, s, d),
-        },
-        CompositeOp::Blend => Painted {
-            number: 45,
-            pixel: pd::blend(p, s, d),
-        },
-        CompositeOp::Dissolve => Painted {
-            number: 46,
-            pixel: pd::dissolve(p, s, d),
-        },
-        CompositeOp::Rmse => Painted {
-            number: 47,
-            pixel: c::rmse(s, d),
-        },
-        CompositeOp::DarkenIntensity => Painted {
-            number: 48,
-            pixel: c::darken_intensity(s, d),
-        },
-        CompositeOp::LightenIntensity => Painted {
-            number: 49,
-            pixel: c::lighten_intensity(s, d),
-        },
-        CompositeOp::Hue => Painted {
-            number: 50,
-            pixel: c::hue(s, d),
-        },
-        CompositeOp::Saturate => Painted {
-            number: 51,
-            pixel: c::saturate(s, d),
-        },
-        CompositeOp::Luminize => Painted {
-            number: 52,
-            pixel: c::luminize(s, d),
-        },
-        CompositeOp::Colorize => Painted {
-            number: 53,
-            pixel: c::colorize(s, d),
-        },
-        CompositeOp::CopyRed => Painted {
-            number: 54,
-            pixel: c::copy_red(s, d),
-        },
-        CompositeOp::CopyGreen => Painted {
-            number: 55,
-            pixel: c::copy_green(s, d),
-        },
-        CompositeOp::CopyBlue => Painted {
-            number: 56,
-            pixel: c::copy_blue(s, d),
-        },
-        CompositeOp::CopyAlpha => Painted {
-            number: 57,
-            pixel: c::copy_alpha(s, d),
-        },
-        CompositeOp::CopyCyan => Painted {
-            number: 58,
-            pixel: c::copy_red(s, d),
-        },
-        CompositeOp::CopyMagenta => Painted {
-            number: 59,
-            pixel: c::copy_green(s, d),
-        },
-        CompositeOp::CopyYellow => Painted {
-            number: 60,
-            pixel: c::copy_blue(s, d),
-        },
-        CompositeOp::CopyBlack => Painted {
-            number: 61,
-            pixel: c::copy_black(s, d),
-        },
-        CompositeOp::ChangeMask => Painted {
-            number: 62,
-            pixel: c::change_mask(p, s, d),
-        },
-        CompositeOp::Bumpmap => Painted {
-            number: 63,
-            pixel: c::bumpmap(s, d),
-        },
-        CompositeOp::Threshold => Painted {
-            number: 64,
-            pixel: c::threshold(p, s, d),
-        },
-        CompositeOp::Displace => Painted {
-            number: 65,
-            pixel: d,
-        },
-        CompositeOp::Distort => Painted {
-            number: 66,
-            pixel: d,
-        },
-        CompositeOp::Blur => Painted {
-            number: 67,
-            pixel: d,
-        },
-        CompositeOp::Intensity => Painted {
-            number: 68,
-            pixel: c::intensity_of(s, d),
-        },
-        CompositeOp::Modulate => Painted {
-            number: 69,
-            pixel: c::modulate(p, s, d),
-        },
+        ),
+        CompositeOp::Src => Painted(17, s),
+        CompositeOp::Dst => Painted(18, d),
+        CompositeOp::DstOver => Painted(19, pd::dst_over(s, d)),
+        CompositeOp::DstIn => Painted(20, pd::dst_in(s, d)),
+        CompositeOp::DstOut => Painted(21, pd::dst_out(s, d)),
+        CompositeOp::DstAtop => Painted(22, pd::dst_atop(s, d)),
+        CompositeOp::MinusDst => Painted(23, m::minus_dst(s, d)),
+        CompositeOp::MinusSrc => Painted(24, m::minus_src(s, d)),
+        CompositeOp::DivideDst => Painted(25, m::divide_dst(s, d)),
+        CompositeOp::DivideSrc => Painted(26, m::divide_src(s, d)),
+        CompositeOp::ModulusAdd => Painted(27, m::modulus_add(s, d)),
+        CompositeOp::ModulusSubtract => Painted(28, m::modulus_subtract(s, d)),
+        CompositeOp::Exclusion => Painted(29, m::exclusion(s, d)),
+        CompositeOp::LinearBurn => Painted(30, m::linear_burn(s, d)),
+        CompositeOp::LinearDodge => Painted(31, m::linear_dodge(s, d)),
+        CompositeOp::LinearLight => Painted(32, m::linear_light(s, d)),
+        CompositeOp::VividLight => Painted(33, m::vivid_light(s, d)),
+        CompositeOp::PinLight => Painted(34, m::pin_light(s, d)),
+        CompositeOp::HardMix => Painted(35, m::hard_mix(s, d)),
+        CompositeOp::PegtopLight => Painted(36, m::pegtop_light(s, d)),
+        CompositeOp::SoftBurn => Painted(37, m::soft_burn(s, d)),
+        CompositeOp::SoftDodge => Painted(38, m::soft_dodge(s, d)),
+        CompositeOp::Stamp => Painted(39, m::stamp(s, d)),
+        CompositeOp::Freeze => Painted(40, m::freeze(s, d)),
+        CompositeOp::Reflect => Painted(41, m::reflect(s, d)),
+        CompositeOp::Negate => Painted(42, m::negate(s, d)),
+        CompositeOp::Interpolate => Painted(43, d),
+        CompositeOp::Mathematics => Painted(44, m::mathematics(p, s, d)),
+        CompositeOp::Blend => Painted(45, pd::blend(p, s, d)),
+        CompositeOp::Dissolve => Painted(46, pd::dissolve(p, s, d)),
+        CompositeOp::Rmse => Painted(47, c::rmse(s, d)),
+        CompositeOp::DarkenIntensity => Painted(48, c::darken_intensity(s, d)),
+        CompositeOp::LightenIntensity => Painted(49, c::lighten_intensity(s, d)),
+        CompositeOp::Hue => Painted(50, c::hue(s, d)),
+        CompositeOp::Saturate => Painted(51, c::saturate(s, d)),
+        CompositeOp::Luminize => Painted(52, c::luminize(s, d)),
+        CompositeOp::Colorize => Painted(53, c::colorize(s, d)),
+        CompositeOp::CopyRed => Painted(54, c::copy_red(s, d)),
+        CompositeOp::CopyGreen => Painted(55, c::copy_green(s, d)),
+        CompositeOp::CopyBlue => Painted(56, c::copy_blue(s, d)),
+        CompositeOp::CopyAlpha => Painted(57, c::copy_alpha(s, d)),
+        CompositeOp::CopyCyan => Painted(58, c::copy_red(s, d)),
+        CompositeOp::CopyMagenta => Painted(59, c::copy_green(s, d)),
+        CompositeOp::CopyYellow => Painted(60, c::copy_blue(s, d)),
+        CompositeOp::CopyBlack => Painted(61, c::copy_black(s, d)),
+        CompositeOp::ChangeMask => Painted(62, c::change_mask(p, s, d)),
+        CompositeOp::Bumpmap => Painted(63, c::bumpmap(s, d)),
+        CompositeOp::Threshold => Painted(64, c::threshold(p, s, d)),
+        CompositeOp::Displace => Painted(65, d),
+        CompositeOp::Distort => Painted(66, d),
+        CompositeOp::Blur => Painted(67, d),
+        CompositeOp::Intensity => Painted(68, c::intensity_of(s, d)),
+        CompositeOp::Modulate => Painted(69, c::modulate(p, s, d)),
     }
 }
 
@@ -326,5 +117,5 @@ pub fn pixel(op: CompositeOp, p: Params, s: Rgba, d: Rgba) -> Rgba
     ensures { λ r. ⌜ r ≡ pixelOf op p s d ⌝ }
 {
     let r = paint(op, p, s, d);
-    r.pixel
+    r.1
 }

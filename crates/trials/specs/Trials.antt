@@ -1,26 +1,78 @@
 -- Document 01, "Trial values": the starred values, proved about the definitions by one theorem over one table. A wrong value in it computes to ⊥.
 -- Floats are given by their words.
 use Prim.Native.Nat.{ℕ}
-use mathlib.Core.Bool.{Bool, true, _&&_}
+use Prim.Native.String.{String}
+use mathlib.Core.Bool.{Bool, true, false, _&&_}
 use mathlib.Core.List.{List, [], _∷_}
 use lib.Dec.{T, eqb}
-use lib.Ieee.{ofBits, toBits, add, mul, rem, lt, le, eq}
+use lib.ListN.{getD}
+use lib.IntN.{ℤ, pos, negsuc, _-ℤ_}
+use lib.Ieee.{ofBits, toBits, add, sub, mul, div, rem, lt, le, eq, isNan}
 use Rattle.float_steps.specs.Words.{valueOf, wordOf}
-use Rattle.float_steps.specs.Order.{clampOf}
+use Rattle.float_steps.specs.Order.{smallerOf, clampOf}
 use Rattle.float_steps.specs.Remainder.{remEuclidOf, wrapOf}
 use Rattle.float_steps.specs.Root.{sqrtOf}
 use Rattle.float_steps.specs.Whole.{byteOf}
+use Rattle.operators.specs.declared.CompositeOp.{CompositeOp}
+use Rattle.operators.specs.declared.CompositeOp.the-variants as O
+use Rattle.places.specs.Placement.{placementOf}
+use Rattle.places.specs.Spots.{spotOf}
+use Rattle.places.specs.declared.Gravity.the-variants.{Centre}
+use Rattle.places.specs.declared.Spot.{Spot}
+use Rattle.places.specs.declared.Spot.the-variants.{At, Off}
+use Rattle.names.specs.Names.{bytes, entries, isKept, lower, fromName, nameFault}
+use Rattle.names.specs.declared.Named.{Named}
+use Rattle.names.specs.declared.Named.the-variants.{Operator, Unknown}
+use Rattle.pictures.specs.declared.Rgba.{Rgba}
+use Rattle.blends.specs.Blends.{colorBurnOf}
+use Rattle.pixels.specs.Channel.{overUnionOf}
+use Rattle.pixels.specs.Pixel.{overBy, unused, pixelOf}
 
 -- a case: what a definition is applied to, and what it must give
 pub data Case : Type 0 where
   wraps : ℕ → ℕ → Case
   roots : ℕ → ℕ → Case
-  bytes : ℕ → ℕ → Case
+  byte : ℕ → ℕ → Case
+  -- an operator's pixel of the source and of the destination, red, green, blue, alpha
+  pixel : CompositeOp → List ℕ → List ℕ → List ℕ → Case
+  -- the centre of a destination's and a source's side
+  centre : ℕ → ℕ → ℤ → Case
+  -- a tile at an offset, of a source so wide: a column, and the source's column there
+  tile : ℕ → ℕ → ℕ → ℕ → Case
+  -- a name's number, or its fault's
+  name : String → ℕ → Case
+  unknown : String → ℕ → Case
+
+-- the pixel of four words
+abbrev pub pixelAt : List ℕ → Rgba
+pixelAt w = record { r = valueOf (getD w 0 0); g = valueOf (getD w 1 0); b = valueOf (getD w 2 0); a = valueOf (getD w 3 0) }
+
+abbrev pub sameWords : Rgba → List ℕ → Bool
+sameWords p w = eqb (wordOf (p .r)) (getD w 0 0) && (eqb (wordOf (p .g)) (getD w 1 0) && (eqb (wordOf (p .b)) (getD w 2 0) && eqb (wordOf (p .a)) (getD w 3 0)))
+
+abbrev pub sameInteger : ℤ → ℤ → Bool
+sameInteger (pos m) (pos n) = eqb m n
+sameInteger (pos m) (negsuc n) = false
+sameInteger (negsuc m) (pos n) = false
+sameInteger (negsuc m) (negsuc n) = eqb m n
+
+abbrev pub isAt : Spot → ℕ → Bool
+isAt (At m) n = eqb m n
+isAt Off n = false
+
+abbrev pub isOperator : Named → ℕ → Bool
+isOperator (Operator m) n = eqb m n
+isOperator Unknown n = false
 
 abbrev pub holds : Case → Bool
 holds (wraps v r) = eqb (wordOf (wrapOf (valueOf v))) r
 holds (roots v r) = eqb (wordOf (sqrtOf (valueOf v))) r
-holds (bytes v r) = eqb (byteOf (valueOf v)) r
+holds (byte v r) = eqb (byteOf (valueOf v)) r
+holds (pixel op s d r) = sameWords (pixelOf op unused (pixelAt s) (pixelAt d)) r
+holds (centre dst src r) = sameInteger (placementOf Centre dst dst src src (pos 0) (pos 0) .x) r
+holds (tile offset width column r) = isAt (spotOf true width (pos column -ℤ pos offset)) r
+holds (name text r) = isOperator (fromName (bytes text)) r
+holds (unknown text r) = eqb (nameFault (fromName (bytes text))) r
 
 abbrev pub all : List Case → Bool
 all [] = true
@@ -28,17 +80,37 @@ all (c ∷ cs) = holds c && all cs
 
 abbrev pub table : List Case
 table =
+    -- Over, (1,0,0,0.5) on (0,0,1,1): (0.5,0,0.5,1)
+    pixel O.Over (0x3f80_0000 ∷ 0 ∷ 0 ∷ 0x3f00_0000 ∷ []) (0 ∷ 0 ∷ 0x3f80_0000 ∷ 0x3f80_0000 ∷ []) (0x3f00_0000 ∷ 0 ∷ 0x3f00_0000 ∷ 0x3f80_0000 ∷ [])
+    -- Over, both alphas 0, the destination's colour (0.25,0.5,0.75): that colour, alpha 0
+    ∷ pixel O.Over (0x3f80_0000 ∷ 0x3f80_0000 ∷ 0x3f80_0000 ∷ 0 ∷ []) (0x3e80_0000 ∷ 0x3f00_0000 ∷ 0x3f40_0000 ∷ 0 ∷ []) (0x3e80_0000 ∷ 0x3f00_0000 ∷ 0x3f40_0000 ∷ 0 ∷ [])
+    -- In, opaque white on alpha 0.5: 0.5 four times
+    ∷ pixel O.In (0x3f80_0000 ∷ 0x3f80_0000 ∷ 0x3f80_0000 ∷ 0x3f80_0000 ∷ []) (0 ∷ 0 ∷ 0 ∷ 0x3f00_0000 ∷ []) (0x3f00_0000 ∷ 0x3f00_0000 ∷ 0x3f00_0000 ∷ 0x3f00_0000 ∷ [])
+    -- ColorBurn, opaque black on opaque white: (0,0,0,1)
+    ∷ pixel O.ColorBurn (0 ∷ 0 ∷ 0 ∷ 0x3f80_0000 ∷ []) (0x3f80_0000 ∷ 0x3f80_0000 ∷ 0x3f80_0000 ∷ 0x3f80_0000 ∷ []) (0 ∷ 0 ∷ 0 ∷ 0x3f80_0000 ∷ [])
+    -- ModulusAdd, opaque 0.75 grey on opaque 0.5 grey: 0.75, alpha 1
+    ∷ pixel O.ModulusAdd (0x3f40_0000 ∷ 0x3f40_0000 ∷ 0x3f40_0000 ∷ 0x3f80_0000 ∷ []) (0x3f00_0000 ∷ 0x3f00_0000 ∷ 0x3f00_0000 ∷ 0x3f80_0000 ∷ []) (0x3f40_0000 ∷ 0x3f40_0000 ∷ 0x3f40_0000 ∷ 0x3f80_0000 ∷ [])
     -- wrap of 2, -1, 1.25: 1, -0, 0.25
-    wraps 0x4000_0000 0x3f80_0000
+    ∷ wraps 0x4000_0000 0x3f80_0000
     ∷ wraps 0xbf80_0000 0x8000_0000
     ∷ wraps 0x3fa0_0000 0x3e80_0000
+    -- Centre, destination 4, source 7: -1; destination 7, source 4: 1
+    ∷ centre 4 7 (negsuc 0)
+    ∷ centre 7 4 (pos 1)
+    -- tile, offset 1, source width 3: column 0 reads 2
+    ∷ tile 1 3 0 2
     -- root of 2: 3FB504F3 hexadecimal
     ∷ roots 0x4000_0000 0x3fb5_04f3
     -- byte of 0.5: 128; of NaN: 0
-    ∷ bytes 0x3f00_0000 128
-    ∷ bytes 0x7fc0_0000 0
+    ∷ byte 0x3f00_0000 128
+    ∷ byte 0x7fc0_0000 0
+    -- "Soft-Light" 13; "SRC over" 0; "minus" 23; empty 3 (refused)
+    ∷ name "Soft-Light" 13
+    ∷ name "SRC over" 0
+    ∷ name "minus" 23
+    ∷ unknown "" 3
     ∷ []
 
 pub trials : T (all table)
-unfolding wrapOf remEuclidOf sqrtOf byteOf clampOf ofBits toBits add mul rem lt le eq
+unfolding wrapOf remEuclidOf sqrtOf byteOf smallerOf clampOf colorBurnOf overUnionOf overBy placementOf spotOf fromName entries isKept lower ofBits toBits add sub mul div rem lt le eq isNan
 trials = tt

@@ -13,7 +13,7 @@ paint-requires c κs = search needs
 returns : tie.Need-returns
 returns c =
     let a = c .before .before .args in
-    c .before .paint .ensures .1 ∙ ap (λ f. f (a .p) (a .s) (a .d)) (at-place (λ p s d. d) pixelOf operators (c .before .paint .result .number) (a .op) (c .before .paint .ensures .0))
+    c .before .paint .ensures .1 ∙ ap (λ f. f (a .p) (a .s) (a .d)) (at-place (λ p s d. d) pixelOf operators (c .before .paint .result .0) (a .op) (c .before .paint .ensures .0))
 
 pub pixel-spec : {M : Type 1} → statement M
 pixel-spec = tie.close (tie.spec paint-requires returns)

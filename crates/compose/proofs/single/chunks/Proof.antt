@@ -1,6 +1,7 @@
 -- `compose::single::chunks` meets its contract. The loop's invariant: the first j pixels of out are composed, and the rest is as it was. The measure is
 -- the pixels left. Assumes nothing.
-use Rattle.compose.proofs.Parts.{chunk-more, length-filled, filled-all}
+use Rattle.compose.proofs.Parts.{chunk-more}
+use Rattle.pictures.proofs.FlatWords.{length-filled, filled-all}
 use mathlib.Core.Path.{_≡_, refl, _∙_, ap}
 use Prim.Native.Nat.{_≤_, _-_, _+_, _*_}
 use native.Mathlib.Omega.{arith}
