@@ -1,0 +1,163 @@
+-- The writes of a call, stretch by stretch: what each stretch asks, and what it adds. Assumes nothing.
+use mathlib.Core.Path.{_≡_, sym, ap, _∙_, subst}
+use mathlib.Core.List.{List}
+use mathlib.Core.Logic.{⊎-elim}
+use Prim.Native.Nat.{ℕ, _+_, _-_, _*_, _/_, _%_, _<_, _≤_, min}
+use native.Mathlib.Nat.{mod-lt, div-add-mod', mul-le-mul, min-eq-left, min-eq-right}
+use native.Mathlib.Omega.{arith}
+use lib.ListN.{length, drop, length-drop}
+use lib.Seq.{length-take-le}
+use Rattle.places.specs.Bounds.{slack, Measured}
+use Rattle.layers.specs.declared.Layer.{Layer}
+use Rattle.layers.specs.declared.Source.{Source}
+use Rattle.layers.specs.Layers.{layerAt}
+use Rattle.layers.proofs.Accepted.{GoodLayer}
+use Rattle.pictures.specs.declared.Words.{Words}
+use Rattle.compose.specs.declared.Plan.{Plan}
+use Rattle.compose.specs.Compose.{planOf, sourceOf}
+use Rattle.compose.proofs.Placed.{ready}
+use Rattle.job.specs.Memory.{Mem, workOf, positionOf}
+use Rattle.job.specs.Call.{Setting, area, pixelOf, runOf}
+use Rattle.job.specs.Steps.{stretchOf, phasePixel, Whole, Raised, Decodable, Sized, Stretch, Due}
+use Rattle.job.proofs.Writes.{le-or-lt}
+use Rattle.job.proofs.Runs.{run-on}
+use Rattle.job.proofs.Stretches.{stretch-position, stretch-run, phase-pixel, part-of, some-of}
+
+-- ---- a layer, decoded
+
+-- the samples of a source that lies in them
+pub source-length : (samples : List ℕ) (source : Source) → source .first + source .width * source .height * source .channels ≤ length samples
+    → length (sourceOf samples source) ≡ source .width * source .height * source .channels
+source-length samples source h =
+    length-take-le (source .width * source .height * source .channels) (drop (source .first) samples) (rw length-drop (omega arith))
+
+-- a good layer can be placed
+pub placed : (s : Setting) (m : Mem) (l : Layer) → Sized s m → GoodLayer (length (s .samples)) l → Measured (s .width) (s .height) (l .source .width) (l .source .height) (l .right) (l .down)
+placed s m l z g = record {
+  dst-width = z .wide;
+  dst-height = z .high;
+  width = g .width;
+  height = g .height;
+  offset-right = g .right;
+  offset-down = g .down;
+}
+
+pub plan-whole : (s : Setting) (m : Mem) (l : Layer) (p : Plan) (source : List ℕ) → Sized s m → GoodLayer (length (s .samples)) l → p ≡ planOf l (s .width) (s .height) → source ≡ sourceOf (s .samples) (l .source)
+    → Whole p (s .channels) (length (s .dst)) (length source) (length (m .work0)) (length (m .work1))
+unfolding planOf
+plan-whole s m l p source z g ep es =
+    let n : length source ≡ l .source .width * l .source .height * l .source .channels = ap length es ∙ source-length (s .samples) (l .source) (g .held) in
+    let r = ready l (s .width) (s .height) (length (s .samples)) g (placed s m l z g) p (length source) ep n in
+    rw ep
+    record {
+      ready = rw ep at r;
+      wide = z .wide;
+      high = z .high;
+      some = z .some;
+      most = z .most;
+      dst-length = z .dst-length;
+      work0-length = z .work0-length;
+      work1-length = z .work1-length;
+    }
+
+-- ---- a stretch
+
+-- what its phase asks
+pub phase-asks : (s : Setting) (k from count rest : ℕ) (m : Mem) (l : Layer) (p : Plan) (source : List ℕ) → Stretch s k from count rest m → GoodLayer (length (s .samples)) l
+    → p ≡ planOf l (s .width) (s .height) → source ≡ sourceOf (s .samples) (l .source)
+    → Whole p (s .channels) (length (s .dst)) (length source) (length (m .work0)) (length (m .work1))
+    × (from + count ≤ p .dw * p .dh)
+    × (rest < 5)
+    × (0 < rest → from + count < p .dw * p .dh)
+    × Raised count m
+unfolding planOf
+phase-asks s k from count rest m l p source h g ep es =
+    (plan-whole s m l p source (h .sized) g ep es, rw ep (h .inside), h .few, rw ep (h .room), record { marked = h .sized .marked; bound = h .bound })
+
+-- what a phase leaves, with its layer decoded, is a run of the call's writes
+pub stretch-done : (s : Setting) (k from count rest : ℕ) (m m′ : Mem) (l : Layer) (p : Plan) (source : List ℕ) → Stretch s k from count rest m
+    → l ≡ layerAt (s .table) (s .args) (k - 1) → p ≡ planOf l (s .width) (s .height) → source ≡ sourceOf (s .samples) (l .source)
+    → m′ ≡ stretchOf k (phasePixel (s .dst) (s .channels) p source (workOf (k - 1) m) k) from count rest m
+    → (m′ ≡ runOf s (5 * positionOf m) (5 * count + rest) m) × (positionOf m′ ≡ positionOf m + count)
+stretch-done s k from count rest m m′ l p source h el ep es e = (
+  e ∙ stretch-run s k from m f (h .sized .marked) (h .position) right count rest (h .inside) (h .room) (omega (arith, h .few)),
+  ap positionOf e ∙ stretch-position k f from count rest m (h .few) (h .sized .marked),
+)
+  where
+    f : ℕ → Words
+    f = phasePixel (s .dst) (s .channels) p source (workOf (k - 1) m) k
+
+    by : Plan → List ℕ → ℕ → Words
+    by q src x = phasePixel (s .dst) (s .channels) q src (workOf (k - 1) m) k x
+
+    right : (x : ℕ) → f x ≡ pixelOf s m k x
+    right x =
+        ap (λ (q : Plan). by q source x) ep
+        ∙ ap (λ (src : List ℕ). by (planOf l (s .width) (s .height)) src x) es
+        ∙ ap (λ (y : Layer). by (planOf y (s .width) (s .height)) (sourceOf (s .samples) (y .source)) x) el
+        ∙ phase-pixel s m k x
+
+-- ---- stretch after stretch
+
+pub sized-still : (s : Setting) (m m′ : Mem) → Sized s m → length (m′ .work0) ≡ length (m .work0) → length (m′ .work1) ≡ length (m .work1) → length (m′ .mark) ≡ length (m .mark) → Sized s m′
+sized-still s m m′ z a b d = record {
+  wide = z .wide;
+  high = z .high;
+  some = z .some;
+  most = z .most;
+  dst-length = z .dst-length;
+  work0-length = a ∙ z .work0-length;
+  work1-length = b ∙ z .work1-length;
+  marked = rw d (z .marked);
+}
+
+pub area-small : (s : Setting) (m : Mem) → Sized s m → area s ≤ slack * slack
+area-small s m z = mul-le-mul (z .wide) (z .high)
+
+-- the smaller of two numbers, where it is not the first
+other-of : (a b r : ℕ) → r ≡ min a b → r < a → r ≡ b
+other-of a b r e h =
+    ⊎-elim (λ l. e ∙ min-eq-right l) (λ l. let x : min a b ≡ a = min-eq-left (omega arith) in absurd (omega arith)) (le-or-lt b a)
+
+-- after `done` writes, a whole number of pixels: the stretch that is next, r writes of it
+module _ (s : Setting) (start made done r : ℕ) (m₀ m : Mem) (q : Due s start made m₀) (z : Sized s m) (h : done < made) (fives : done % 5 ≡ 0) (at : positionOf m ≡ start + done / 5) (e : r ≡ min (made - done) (5 * (area s - (start + done / 5) % area s))) where
+  pub due-area : 0 < area s
+  due-area = q .some (omega arith)
+
+  pub due-below : (start + done / 5) % area s < area s
+  due-below = mod-lt (start + done / 5) due-area
+
+  pub due-left : r ≤ made - done
+  due-left = part-of (made - done) _ r e .0
+
+  due-inside : r ≤ 5 * (area s - (start + done / 5) % area s)
+  due-inside = part-of (made - done) _ r e .1
+
+  pub due-some : 0 < r
+  due-some = let b = due-below in some-of (made - done) _ r e (omega arith) (omega arith)
+
+  pub due-stretch : Stretch s ((start + done / 5) / area s) ((start + done / 5) % area s) (r / 5) (r % 5) m
+  due-stretch =
+      let b = due-below in
+      let l = due-left in
+      let i = due-inside in
+      let d : (5 * start + done) / 5 ≡ start + done / 5 = omega arith in
+      record {
+        sized = z;
+        decodable = subst (λ (x : ℕ). Decodable s (x / area s)) d (q .layers (5 * start + done) (omega arith));
+        inside = omega arith;
+        few = omega arith;
+        room = λ p. omega arith;
+        position = at ∙ sym (div-add-mod' (start + done / 5) (area s));
+        bound = omega (arith, q .bound);
+      }
+
+  -- and after it
+  pub due-fives : done + r < made → (done + r) % 5 ≡ 0
+  due-fives l = let x = other-of (made - done) _ r e (omega arith) in omega (arith, x)
+
+  pub due-run : (m′ : Mem) → m ≡ runOf s (5 * start) done m₀ → m′ ≡ runOf s (5 * positionOf m) (5 * (r / 5) + r % 5) m → m′ ≡ runOf s (5 * start) (done + r) m₀
+  due-run m′ f g = run-on s (5 * start) done (5 * (r / 5) + r % 5) m₀ m m′ (5 * positionOf m) (done + r) f (omega arith) g (omega arith)
+
+  pub due-position : (m′ : Mem) → positionOf m′ ≡ positionOf m + r / 5 → positionOf m′ ≡ start + (done + r) / 5
+  due-position m′ g = omega arith

@@ -1,0 +1,10 @@
+pub mod Writes
+pub mod Runs
+pub mod Stretches
+pub mod Flat
+pub mod Dues
+pub mod Checked
+pub mod Blocks
+pub mod Sequence
+pub mod Progress
+pub mod Demand

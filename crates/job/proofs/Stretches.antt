@@ -1,0 +1,253 @@
+-- Whole pixels of one picture, and the writes of a part of one: what they leave, and that they are a run of the call's writes. Assumes nothing.
+use mathlib.Core.Path.{_≡_, refl, sym, ap, _∙_}
+use mathlib.Core.Bool.{Bool, cond}
+use mathlib.Core.List.{List}
+use Prim.Native.Nat.{ℕ, zero, suc, _+_, _-_, _*_, _%_, _<_, _≤_, min}
+use native.Mathlib.Nat.{add-zero, zero-add, add-suc, add-assoc, min-le-left, min-le-right, le-min}
+use native.Mathlib.Numerals.{add-one}
+use native.Mathlib.Omega.{arith}
+use lib.Dec.{eqb}
+use lib.ListN.{length, getD, take, drop}
+use lib.Seq.{take-suc}
+use Rattle.layers.specs.Layers.{layerAt}
+use Rattle.pictures.specs.declared.Words.{Words}
+use Rattle.pictures.specs.Widen.{rgbaAt, valuesOf}
+use Rattle.pictures.specs.FlatWords.{filled}
+use Rattle.compose.specs.declared.Plan.{Plan}
+use Rattle.compose.specs.Compose.{planOf, sourceOf, composedBy}
+use Rattle.job.specs.declared.Write.{Write}
+use Rattle.job.specs.declared.Write.the-variants.{Checkpoint}
+use Rattle.job.specs.Memory.{Mem, put, stored, workIn, workOf, wordWrite, fiveWrites, positionOf}
+use Rattle.job.specs.Call.{Setting, area, pixelOf, runOf}
+use Rattle.job.specs.Steps.{someOf, pixelsOf, stretchOf, phasePixel, Whole, Raised}
+use Rattle.compose.proofs.Parts.{flat-pixel}
+use Rattle.job.proofs.Flat.{channel-at}
+use Rattle.job.proofs.Writes.{stored-snoc, word-at, word-mark, five-position, five-mark}
+use Rattle.job.proofs.Runs.{run-on, Under, under-pixel, under-write, uses}
+
+-- ---- what they leave
+
+five-under : (k j : ℕ) (w : Words) (m : Mem) → Under k (someOf k j w 5 m) m
+unfolding stored
+five-under k j w m b e =
+    under-write k j w q 4 (someOf k j w 4 m) b e
+    ∙ under-write k j w q 3 (someOf k j w 3 m) b e
+    ∙ under-write k j w q 2 (someOf k j w 2 m) b e
+    ∙ under-write k j w q 1 (someOf k j w 1 m) b e
+    ∙ under-write k j w q 0 m b e
+  where
+    q : ℕ
+    q = positionOf m + 1
+
+module _ (k : ℕ) (f : ℕ → Words) (from : ℕ) (m : Mem) where
+  pub pixels-mark : (n : ℕ) → length (pixelsOf k f from n m .mark) ≡ length (m .mark)
+  unfolding pixelsOf
+  pixels-mark zero = refl
+  pixels-mark (suc n) = five-mark k (from + n) (f (from + n)) (pixelsOf k f from n m) ∙ pixels-mark n
+
+  pub pixels-position : 0 < length (m .mark) → (n : ℕ) → positionOf (pixelsOf k f from n m) ≡ positionOf m + n
+  unfolding pixelsOf
+  pixels-position h zero = sym (add-zero (positionOf m))
+  pixels-position h (suc n) =
+      let l : 0 < length (pixelsOf k f from n m .mark) = rw (pixels-mark n) h in
+      five-position k (from + n) (f (from + n)) (pixelsOf k f from n m) l ∙ omega (arith, pixels-position h n)
+
+  pub pixels-under : (n : ℕ) → Under k (pixelsOf k f from n m) m
+  unfolding pixelsOf
+  pixels-under zero b e = refl
+  pixels-under (suc n) b e = five-under k (from + n) (f (from + n)) (pixelsOf k f from n m) b e ∙ pixels-under n b e
+
+-- the writes before the position's leave the checkpoint
+some-mark : (k j : ℕ) (w : Words) (c : ℕ) (m : Mem) → c < 5 → someOf k j w c m .mark ≡ m .mark
+unfolding stored
+some-mark k j w zero m h = refl
+some-mark k j w (suc zero) m h = word-mark (4 * j) (w .r) m k
+some-mark k j w (suc (suc zero)) m h = word-mark (4 * j + 1) (w .g) _ k ∙ word-mark (4 * j) (w .r) m k
+some-mark k j w (suc (suc (suc zero))) m h =
+    word-mark (4 * j + 2) (w .b) _ k ∙ word-mark (4 * j + 1) (w .g) _ k ∙ word-mark (4 * j) (w .r) m k
+some-mark k j w (suc (suc (suc (suc zero)))) m h =
+    word-mark (4 * j + 3) (w .a) _ k ∙ word-mark (4 * j + 2) (w .b) _ k ∙ word-mark (4 * j + 1) (w .g) _ k ∙ word-mark (4 * j) (w .r) m k
+some-mark k j w (suc (suc (suc (suc (suc c))))) m h = absurd (omega arith)
+
+pub stretch-position : (k : ℕ) (f : ℕ → Words) (from n c : ℕ) (m : Mem) → c < 5 → 0 < length (m .mark)
+    → positionOf (stretchOf k f from n c m) ≡ positionOf m + n
+stretch-position k f from n c m h l =
+    ap (λ (x : List ℕ). getD x 0 0) (some-mark k (from + n) (f (from + n)) c (pixelsOf k f from n m) h) ∙ pixels-position k f from m l n
+
+-- ---- pixel after pixel
+
+pub pixels-split : (k : ℕ) (f : ℕ → Words) (from a b : ℕ) (m : Mem) → pixelsOf k f from (a + b) m ≡ pixelsOf k f (from + a) b (pixelsOf k f from a m)
+unfolding pixelsOf
+pixels-split k f from a zero m = ap (λ (x : ℕ). pixelsOf k f from x m) (add-zero a)
+pixels-split k f from a (suc b) m =
+    ap (λ (x : ℕ). pixelsOf k f from x m) (add-suc a b)
+    ∙ ap (λ (r : Mem). someOf k (from + (a + b)) (f (from + (a + b))) 5 r) (pixels-split k f from a b m)
+    ∙ ap (λ (x : ℕ). someOf k x (f x) 5 (pixelsOf k f (from + a) b (pixelsOf k f from a m))) (sym (add-assoc from a b))
+
+-- one pixel more, as the code makes it
+pub pixels-more : (k : ℕ) (f : ℕ → Words) (from n : ℕ) (w : Words) (m₀ m m′ : Mem) → m ≡ pixelsOf k f from n m₀ → w ≡ f (from + n) → m′ ≡ someOf k (from + n) w 5 m → m′ ≡ pixelsOf k f from (n + 1) m₀
+unfolding pixelsOf
+pixels-more k f from n w m₀ m m′ h e g =
+    g
+    ∙ ap (λ (x : Words). someOf k (from + n) x 5 m) e
+    ∙ ap (λ (r : Mem). someOf k (from + n) (f (from + n)) 5 r) h
+    ∙ ap (λ (x : ℕ). pixelsOf k f from x m₀) (sym (add-one n))
+
+-- the same words
+pub pixels-same : (k : ℕ) (f g : ℕ → Words) (from n : ℕ) (m : Mem) → ((x : ℕ) → x < n → f (from + x) ≡ g (from + x)) → pixelsOf k f from n m ≡ pixelsOf k g from n m
+unfolding pixelsOf
+pixels-same k f g from zero m h = refl
+pixels-same k f g from (suc n) m h =
+    ap (λ (r : Mem). someOf k (from + n) (f (from + n)) 5 r) (pixels-same k f g from n m (λ x l. h x (omega arith)))
+    ∙ ap (λ (w : Words). someOf k (from + n) w 5 (pixelsOf k g from n m)) (h n (omega arith))
+
+-- ---- they are the call's writes
+
+module _ (s : Setting) (k from : ℕ) (m : Mem) (f : ℕ → Words) (marked : 0 < length (m .mark)) (split : positionOf m ≡ k * area s + from) (right : (x : ℕ) → f x ≡ pixelOf s m k x) where
+  -- the first c writes of the pixel after n whole ones
+  next-run : (n c : ℕ) → from + n < area s → c ≤ 5
+      → someOf k (from + n) (f (from + n)) c (pixelsOf k f from n m) ≡ runOf s (5 * positionOf (pixelsOf k f from n m)) c (pixelsOf k f from n m)
+  next-run n c inside h =
+      let r = pixelsOf k f from n m in
+      let p : positionOf r ≡ k * area s + (from + n) = omega (arith, pixels-position k f from m marked n) in
+      ap (λ (w : Words). someOf k (from + n) w c r) (right (from + n) ∙ sym (under-pixel s k r m (from + n) (pixels-under k f from m n)))
+      ∙ uses s r k (from + n) inside p c h
+
+  pub pixels-run : (n : ℕ) → from + n ≤ area s → pixelsOf k f from n m ≡ runOf s (5 * positionOf m) (5 * n) m
+  unfolding pixelsOf runOf
+  pixels-run zero h = refl
+  pixels-run (suc n) h =
+      let e = pixels-position k f from m marked n in
+      run-on s (5 * positionOf m) (5 * n) 5 m (pixelsOf k f from n m) _ (5 * positionOf (pixelsOf k f from n m)) (5 * suc n)
+      (pixels-run n (omega arith)) (omega arith) (next-run n 5 (omega arith) (omega arith)) (omega arith)
+
+  pub stretch-run : (n c : ℕ) → from + n ≤ area s → (0 < c → from + n < area s) → c ≤ 5
+      → stretchOf k f from n c m ≡ runOf s (5 * positionOf m) (5 * n + c) m
+  unfolding stored
+  stretch-run n zero h l b = pixels-run n h ∙ ap (λ (x : ℕ). runOf s (5 * positionOf m) x m) (sym (add-zero (5 * n)))
+  stretch-run n (suc c) h l b =
+      let e = pixels-position k f from m marked n in
+      run-on s (5 * positionOf m) (5 * n) (suc c) m (pixelsOf k f from n m) _ (5 * positionOf (pixelsOf k f from n m)) (5 * n + suc c)
+      (pixels-run n h) (omega arith) (next-run n (suc c) (l (omega arith)) b) refl
+
+-- ---- a phase with its layer decoded
+
+module _ (dst : List ℕ) (channels : ℕ) (p : Plan) (source : List ℕ) where
+  pub under-phase : (k : ℕ) (m m′ : Mem) (j : ℕ) → Under k m m′ → phasePixel dst channels p source (workOf (k - 1) m) k j ≡ phasePixel dst channels p source (workOf (k - 1) m′) k j
+  unfolding phasePixel
+  under-phase zero m m′ j h = refl
+  under-phase (suc k) m m′ j h =
+      let e : suc k ≡ suc (suc k - 1) = omega arith in
+      ap (λ (l : List ℕ). composedBy p source (λ x. valuesOf (rgbaAt l 4 x)) (rgbaAt l 4 j) j) (h (suc k - 1) (sym e))
+
+  -- a buffer filled for phase 0, and for a later one
+  pub fill-first : (k from n : ℕ) (beneath out : List ℕ) → k ≡ 0 → filled (λ x. rgbaAt dst channels (from + x)) n out ≡ filled (λ x. phasePixel dst channels p source beneath k (from + x)) n out
+  unfolding phasePixel
+  fill-first zero from n beneath out e = refl
+  fill-first (suc k) from n beneath out e = absurd (omega arith)
+
+  pub fill-later : (k from n : ℕ) (work0 work1 out : List ℕ) (b : Bool) → (k ≡ 0 → ⊥) → eqb ((k - 1) % 2) 0 ≡ b
+      → filled (λ x. composedBy p source (λ y. valuesOf (rgbaAt (cond b work0 work1) 4 y)) (rgbaAt (cond b work0 work1) 4 (from + x)) (from + x)) n out
+      ≡ filled (λ x. phasePixel dst channels p source (workIn (k - 1) work0 work1) k (from + x)) n out
+  unfolding phasePixel
+  fill-later zero from n work0 work1 out b h e = absurd (h refl)
+  fill-later (suc k) from n work0 work1 out b h e =
+      ap (λ (t : Bool). filled (λ x. composedBy p source (λ y. valuesOf (rgbaAt (cond t work0 work1) 4 y)) (rgbaAt (cond t work0 work1) 4 (from + x)) (from + x)) n out) (sym e)
+
+-- the layer of phase k, decoded, gives the phase's pixel
+pub phase-pixel : (s : Setting) (m : Mem) (k j : ℕ)
+    → phasePixel (s .dst) (s .channels) (planOf (layerAt (s .table) (s .args) (k - 1)) (s .width) (s .height)) (sourceOf (s .samples) (layerAt (s .table) (s .args) (k - 1) .source)) (workOf (k - 1) m) k j
+    ≡ pixelOf s m k j
+unfolding phasePixel pixelOf
+phase-pixel s m zero j = refl
+phase-pixel s m (suc k) j =
+    let e : suc k - 1 ≡ k = omega arith in
+    ap (λ (x : ℕ). composedBy (planOf (layerAt (s .table) (s .args) x) (s .width) (s .height)) (sourceOf (s .samples) (layerAt (s .table) (s .args) x .source)) (λ y. valuesOf (rgbaAt (workOf x m) 4 y)) (rgbaAt (workOf x m) 4 j) j) e
+
+-- ---- the buffer
+
+-- a pixel of a filled buffer
+pub filled-pixel : (f : ℕ → Words) (n : ℕ) (out buf : List ℕ) (x : ℕ) → buf ≡ filled f n out → x < n → rgbaAt buf 4 x ≡ f x
+filled-pixel f n out buf x e h = ap (λ (l : List ℕ). rgbaAt l 4 x) e ∙ flat-pixel f 0 n (drop (4 * n) out) x h ∙ ap f (zero-add x)
+
+-- one channel more of a pixel, from a buffer that holds it
+pub some-more : (k j c : ℕ) (one : List ℕ) (m₀ m m′ : Mem) → c < 4 → m ≡ someOf k j (rgbaAt one 4 0) c m₀ → m′ ≡ put (wordWrite k (4 * j + c) (getD one c 0)) m
+    → m′ ≡ someOf k j (rgbaAt one 4 0) (c + 1) m₀
+some-more k j c one m₀ m m′ h e g =
+    let five = fiveWrites k j (rgbaAt one 4 0) (positionOf m₀ + 1) in
+    let word : getD five c (Checkpoint 0) ≡ wordWrite k (4 * j + c) (getD one c 0) =
+    word-at k j (rgbaAt one 4 0) (positionOf m₀ + 1) (Checkpoint 0) c h ∙ ap (wordWrite k (4 * j + c)) (channel-at one 0 c h ∙ ap (λ (x : ℕ). getD one x 0) (zero-add c)) in
+    g
+    ∙ ap (λ (w : Write). put w m) (sym word)
+    ∙ ap (put (getD five c (Checkpoint 0))) e
+    ∙ sym (stored-snoc (take c five) (getD five c (Checkpoint 0)) m₀)
+    ∙ ap (λ (ws : List Write). stored ws m₀) (sym (take-suc five c (Checkpoint 0) (omega arith)))
+    ∙ ap (λ (x : ℕ). someOf k j (rgbaAt one 4 0) x m₀) (sym (add-one c))
+
+-- ---- none yet
+
+pub pixels-none : (k : ℕ) (f : ℕ → Words) (from : ℕ) (m : Mem) → m ≡ pixelsOf k f from 0 m
+unfolding pixelsOf
+pixels-none k f from m = refl
+
+pub some-none : (k j : ℕ) (w : Words) (c : ℕ) (m : Mem) → c ≡ 0 → m ≡ someOf k j w c m
+unfolding stored
+some-none k j w zero m e = refl
+some-none k j w (suc c) m e = absurd (omega arith)
+
+-- ---- what the loops cite
+
+pub part-of : (a b r : ℕ) → r ≡ min a b → (r ≤ a) × (r ≤ b)
+part-of a b r e = (rw e (min-le-left a b), rw e (min-le-right a b))
+
+pub some-of : (a b r : ℕ) → r ≡ min a b → 0 < a → 0 < b → 0 < r
+some-of a b r e ha hb = rw e (le-min ha hb)
+
+-- work buffers of the same length
+pub whole-still : (p : Plan) (channels dst source a b a′ b′ : ℕ) → Whole p channels dst source a b → a′ ≡ a → b′ ≡ b → Whole p channels dst source a′ b′
+whole-still p channels dst source a b a′ b′ h e f = rw (e, f) h
+
+-- n pixels of the r that are in bounds further on
+pub raised-on : (k : ℕ) (f : ℕ → Words) (from n all r : ℕ) (m₀ m : Mem) → Raised all m₀ → m ≡ pixelsOf k f from n m₀ → n ≤ all → r ≤ all - n → Raised r m
+raised-on k f from n all r m₀ m h e a l =
+    record {
+      marked = rw (ap (λ (x : Mem). length (x .mark)) e ∙ pixels-mark k f from m₀ n) (h .marked);
+      bound = omega (arith, h .bound, ap positionOf e, pixels-position k f from m₀ (h .marked) n);
+    }
+
+-- one span more: r pixels filled into a buffer from the memory that is found, and written from it
+pub span-more : (dst : List ℕ) (channels : ℕ) (p : Plan) (source : List ℕ) (k from n r : ℕ) (out buf : List ℕ) (m₀ m m′ : Mem)
+    → m ≡ pixelsOf k (phasePixel dst channels p source (workOf (k - 1) m₀) k) from n m₀
+    → buf ≡ filled (λ x. phasePixel dst channels p source (workOf (k - 1) m) k (from + n + x)) r out
+    → m′ ≡ pixelsOf k (λ j. rgbaAt buf 4 (j - (from + n))) (from + n) r m
+    → m′ ≡ pixelsOf k (phasePixel dst channels p source (workOf (k - 1) m₀) k) from (n + r) m₀
+span-more dst channels p source k from n r out buf m₀ m m′ h e g =
+    g
+    ∙ pixels-same k _ f (from + n) r m (λ x l. same x l)
+    ∙ ap (λ (t : Mem). pixelsOf k f (from + n) r t) h
+    ∙ sym (pixels-split k f from n r m₀)
+  where
+    f : ℕ → Words
+    f = phasePixel dst channels p source (workOf (k - 1) m₀) k
+
+    still : Under k m m₀
+    still = rw h (pixels-under k f from m₀ n)
+
+    same : (x : ℕ) → x < r → rgbaAt buf 4 (from + n + x - (from + n)) ≡ f (from + n + x)
+    same x l =
+        let a : from + n + x - (from + n) ≡ x = omega arith in
+        ap (rgbaAt buf 4) a
+        ∙ filled-pixel (λ y. phasePixel dst channels p source (workOf (k - 1) m) k (from + n + y)) r out buf x e l
+        ∙ under-phase dst channels p source k m m₀ (from + n + x) still
+
+-- a whole stretch, as the code makes it
+pub stretch-made : (dst : List ℕ) (channels : ℕ) (p : Plan) (source : List ℕ) (k from n c : ℕ) (m m₁ m₂ : Mem)
+    → m₁ ≡ pixelsOf k (phasePixel dst channels p source (workOf (k - 1) m) k) from n m
+    → m₂ ≡ someOf k (from + n) (phasePixel dst channels p source (workOf (k - 1) m₁) k (from + n)) c m₁
+    → m₂ ≡ stretchOf k (phasePixel dst channels p source (workOf (k - 1) m) k) from n c m
+stretch-made dst channels p source k from n c m m₁ m₂ h g =
+    let f = phasePixel dst channels p source (workOf (k - 1) m) k in
+    let still : Under k m₁ m = rw h (pixels-under k f from m n) in
+    g
+    ∙ ap (λ (w : Words). someOf k (from + n) w c m₁) (under-phase dst channels p source k m₁ m (from + n) still)
+    ∙ ap (λ (t : Mem). someOf k (from + n) (f (from + n)) c t) h

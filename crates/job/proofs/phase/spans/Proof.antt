@@ -1,0 +1,130 @@
+-- `job::phase::spans` meets its contract. The invariant: memory is what i whole pixels of the phase leave, and the lists have kept their lengths. The measure is what is left of the pixels. Assumes nothing.
+use Prim.Native.Nat.{ℕ, _-_, _≤_}
+use mathlib.Core.Path.{_≡_, refl, sym, ap, _∙_}
+use lib.ListN.{length}
+use Rattle.job.specs.Memory.{memOf, workOf}
+use Rattle.job.specs.Steps.{pixelsOf, phasePixel}
+use Rattle.job.proofs.Stretches.{pixels-none, span-more, part-of, some-of, whole-still, raised-on}
+use native.Mathlib.Omega.{arith}
+use Rattle.job.proofs.phase.spans.Statement.{statement}
+use Rattle.job.proofs.phase.spans.Tie as tie
+
+abbrev Inv-loop : tie.InvT-loop
+Inv-loop dst channels p source k from count work0₀ work1₀ mark₀ buf₀ i₀ work0 work1 mark buf i =
+    (i ≤ count)
+    × (memOf work0 work1 mark ≡ pixelsOf k (phasePixel dst channels p source (workOf (k - 1) (memOf work0₀ work1₀ mark₀)) k) from i (memOf work0₀ work1₀ mark₀))
+    × (length work0 ≡ length work0₀)
+    × (length work1 ≡ length work1₀)
+    × (length mark ≡ length mark₀)
+    × (length buf ≡ 256)
+
+abbrev μ-loop : tie.MeasureT-loop
+μ-loop dst channels p source k from count work0₀ work1₀ mark₀ buf₀ i₀ work0 work1 mark buf i = count - i
+
+loop-holds : tie.Need-loop-holds Inv-loop μ-loop
+loop-holds c = let s = c .before .before .before .before .before in (omega arith, pixels-none (s .args .k) _ (s .args .from) (memOf (s .args .work0 .now) (s .args .work1 .now) (s .args .mark .now)), refl, refl, refl, refl)
+
+sub-least : tie.Need-sub-least Inv-loop μ-loop
+sub-least c = omega arith
+
+least-requires : tie.Need-least-requires Inv-loop μ-loop
+least-requires c κs = tt
+
+add-fill : tie.Need-add-fill Inv-loop μ-loop
+add-fill c = let s = c .before .before .before .before .before .before .before .before in omega (arith, s .pre .1, s .pre .0 .work0-length)
+
+slice-aggregate-fill : tie.Need-slice-aggregate-fill Inv-loop μ-loop
+slice-aggregate-fill c = sym (c .before .before .before .before .before .loop .inv .5)
+
+fill-requires : tie.Need-fill-requires Inv-loop μ-loop
+fill-requires c κs =
+    let s = c .before .before .before .before .before .before .before .before .before .before .before in
+    let v = c .before .before .before .before .before .loop .inv in
+    let r = part-of 64 (s .args .count - c .before .before .before .before .before .loop .i) _ (c .before .before .before .least .ensures) in
+    (whole-still _ _ _ _ _ _ _ _ (s .pre .0) (v .2) (v .3), omega (arith, s .pre .1, r .1), omega (arith, v .5, r .0))
+
+slice-aggregate-write-out : tie.Need-slice-aggregate-write-out Inv-loop μ-loop
+slice-aggregate-write-out c = sym (c .before .before .fill .kept .1 .1 .1 .1 .1 .1 .1 .1 .1 .0 ∙ c .before .before .before .before .before .before .before .before .loop .inv .5)
+
+add-write-out : tie.Need-add-write-out Inv-loop μ-loop
+add-write-out c = let s = c .before .before .before .before .before .before .before .before .before .before .before .before .before .before in omega (arith, s .pre .1, s .pre .0 .work0-length)
+
+write-out-requires : tie.Need-write-out-requires Inv-loop μ-loop
+write-out-requires c κs =
+    let s = c .before .before .before .before .before .before .before .before .before .before .before .before .before .before .before .before .before in
+    let l = c .before .before .before .before .before .before .before .before .before .before .before .loop in
+    let v = l .inv in
+    let h = s .pre .0 in
+    let r = part-of 64 (s .args .count - c .before .before .before .before .before .before .before .before .before .before .before .loop .i) _ (c .before .before .before .before .before .before .before .before .before .least .ensures) in (
+      omega (arith, c .before .before .before .before .before .fill .kept .1 .1 .1 .1 .1 .1 .1 .1 .1 .0, v .5, r .0),
+      omega (arith, s .pre .1, r .1, h .work0-length, v .2),
+      omega (arith, s .pre .1, r .1, h .work1-length, v .3),
+      raised-on (s .args .k) _ (s .args .from) (l .i) (s .args .count) _ (memOf (s .args .work0 .now) (s .args .work1 .now) (s .args .mark .now)) (memOf (l .work0) (l .work1) (l .mark)) (s .pre .2) (v .1) (v .0) (r .1),
+    )
+
+add-i : tie.Need-add-i Inv-loop μ-loop
+add-i c =
+    let s = c .before .before .before .before .before .before .before .before .before .before .before .before .before .before .before .before .before .before .before .before .before .before .before .before in
+    let r = part-of 64 (s .args .count - c .before .before .before .before .before .before .before .before .before .before .before .before .before .before .before .before .before .before .loop .i) _ (c .before .before .before .before .before .before .before .before .before .before .before .before .before .before .before .before .least .ensures) in
+    omega (arith, s .pre .1, s .pre .0 .work0-length, r .1, c .before .before .before .before .before .before .before .before .before .before .before .before .before .before .before .before .before .loop-test, c .before .before .before .before .before .before .before .before .before .before .before .before .before .before .before .before .before .before .loop .inv .0)
+
+loop-less : tie.Need-loop-less Inv-loop μ-loop
+loop-less c =
+    let s = c .before .before .before .before .before .before .before .before .before .before .before .before .before .before .before .before .before .before .before .before .before .before .before .before in
+    let r = part-of 64 (s .args .count - c .before .before .before .before .before .before .before .before .before .before .before .before .before .before .before .before .before .before .loop .i) _ (c .before .before .before .before .before .before .before .before .before .before .before .before .before .before .before .before .least .ensures) in
+    let g = some-of 64 (s .args .count - c .before .before .before .before .before .before .before .before .before .before .before .before .before .before .before .before .before .before .loop .i) _ (c .before .before .before .before .before .before .before .before .before .before .before .before .before .before .before .before .least .ensures) (omega arith) (omega (arith, c .before .before .before .before .before .before .before .before .before .before .before .before .before .before .before .before .before .loop-test)) in
+    omega (arith, r .1, g, c .before .before .before .before .before .before .before .before .before .before .before .before .before .before .before .before .before .loop-test)
+
+loop-again : tie.Need-loop-again Inv-loop μ-loop
+loop-again c =
+    let s = c .before .before .before .before .before .before .before .before .before .before .before .before .before .before .before .before .before .before .before .before .before .before .before .before in
+    let l = c .before .before .before .before .before .before .before .before .before .before .before .before .before .before .before .before .before .before .loop in
+    let v = l .inv in
+    let r = part-of 64 (s .args .count - c .before .before .before .before .before .before .before .before .before .before .before .before .before .before .before .before .before .before .loop .i) _ (c .before .before .before .before .before .before .before .before .before .before .before .before .before .before .before .before .least .ensures) in
+    let f = c .before .before .before .before .before .before .write-out in (
+      omega (arith, r .1, v .0),
+      span-more (s .args .dst .now) (s .args .channels) (s .args .p) (s .args .source .now) (s .args .k) (s .args .from) (l .i) (c .before .before .before .before .before .before .before .before .before .before .before .before .before .before .before .before .least .result) (l .buf) (c .before .before .before .before .before .before .before .before .before .before .before .before .fill .last .1 .1 .1 .1 .1 .1 .1 .1 .1 .0) (memOf (s .args .work0 .now) (s .args .work1 .now) (s .args .mark .now)) (memOf (l .work0) (l .work1) (l .mark)) (memOf (f .last .1 .1 .1 .1 .0) (f .last .1 .1 .1 .1 .1 .0) (f .last .1 .1 .1 .1 .1 .1 .0)) (v .1) (c .before .before .before .before .before .before .before .before .before .before .before .before .fill .ensures) (f .ensures),
+      f .kept .1 .1 .1 .1 .0 ∙ v .2,
+      f .kept .1 .1 .1 .1 .1 .0 ∙ v .3,
+      f .kept .1 .1 .1 .1 .1 .1 .0 ∙ v .4,
+      c .before .before .before .before .before .before .before .before .before .before .before .before .fill .kept .1 .1 .1 .1 .1 .1 .1 .1 .1 .0 ∙ v .5,
+    )
+
+same-length : tie.Need-same-length Inv-loop μ-loop
+same-length c = c .before .loop .inv .2
+
+same-length-2 : tie.Need-same-length-2 Inv-loop μ-loop
+same-length-2 c = c .before .loop .inv .3
+
+same-length-3 : tie.Need-same-length-3 Inv-loop μ-loop
+same-length-3 c = c .before .loop .inv .4
+
+returns : tie.Need-returns Inv-loop μ-loop
+returns c =
+    let s = c .before .before .before .before .before .before .before in
+    let v = c .before .loop .inv in
+    let e : c .before .loop .i ≡ s .args .count = omega (arith, v .0) in
+    v .1 ∙ ap (λ (x : ℕ). pixelsOf (s .args .k) (phasePixel (s .args .dst .now) (s .args .channels) (s .args .p) (s .args .source .now) (workOf (s .args .k - 1) (memOf (s .args .work0 .now) (s .args .work1 .now) (s .args .mark .now))) (s .args .k)) (s .args .from) x (memOf (s .args .work0 .now) (s .args .work1 .now) (s .args .mark .now))) e
+
+pub spans-spec : {M : Type 1} → statement M
+spans-spec =
+    tie.close
+    (tie.spec
+    Inv-loop
+    μ-loop
+    loop-holds
+    sub-least
+    least-requires
+    add-fill
+    slice-aggregate-fill
+    fill-requires
+    slice-aggregate-write-out
+    add-write-out
+    write-out-requires
+    add-i
+    loop-less
+    loop-again
+    same-length
+    same-length-2
+    same-length-3
+    returns)

@@ -1,0 +1,123 @@
+-- What one call of a job leaves and answers, for every input and every memory that it is lent (document 01, "Stores and the mark", and checks 9 and 10
+-- of its table). Definitions only.
+use mathlib.Core.Bool.{Bool, false, cond}
+use mathlib.Core.List.{List}
+use Prim.Native.Nat.{ℕ, zero, suc, _+_, _-_, _*_, _/_, _%_, min}
+use lib.Dec.{eqb, ltb}
+use lib.IntN.{ℤ}
+use lib.ListN.{length, getD}
+use Rattle.layers.specs.declared.Verdict.{Verdict}
+use Rattle.layers.specs.Cells.{natOf}
+use Rattle.layers.specs.Inputs.{Inputs, verdict, jobFault}
+use Rattle.layers.specs.Layers.{layerAt}
+use Rattle.pictures.specs.declared.Words.{Words}
+use Rattle.pictures.specs.Widen.{rgbaAt}
+use Rattle.compose.specs.Compose.{composedAt}
+use Rattle.job.specs.declared.Answer.{Answer}
+use Rattle.job.specs.declared.Write.{Write}
+use Rattle.job.specs.declared.Write.the-variants.{Checkpoint}
+use Rattle.job.specs.Memory.{Mem, memOf, positionOf, put, workOf, fiveWrites}
+
+-- ---- a job's numbers
+
+-- the pixels of the destination, and of each picture (document 01: N)
+abbrev pub pixelCount : Inputs → ℕ
+pixelCount i = natOf (i .width) * natOf (i .height)
+
+abbrev pub layerCount : Inputs → ℕ
+layerCount i = natOf (i .count)
+
+-- the position of a finished job
+abbrev pub endOf : Inputs → ℕ
+endOf i = (layerCount i + 1) * pixelCount i
+
+-- what the writes are made from: the inputs without the count of layers, sides and channels as natural numbers
+pub record Setting : Type 0 where
+  pub width : ℕ
+  pub height : ℕ
+  pub channels : ℕ
+  pub dst : List ℕ
+  pub table : List ℤ
+  pub args : List ℕ
+  pub samples : List ℕ
+
+abbrev pub setting : (width height channels : ℕ) → List ℕ → List ℤ → List ℕ → List ℕ → Setting
+setting width height channels dst table args samples = record {
+  width = width;
+  height = height;
+  channels = channels;
+  dst = dst;
+  table = table;
+  args = args;
+  samples = samples;
+}
+
+abbrev pub settingOf : Inputs → Setting
+settingOf i = setting (natOf (i .width)) (natOf (i .height)) (natOf (i .channels)) (i .dst) (i .table) (i .args) (i .samples)
+
+-- the pixels of a picture
+abbrev pub area : Setting → ℕ
+area s = s .width * s .height
+
+-- ---- the checks of the memory, after those of the inputs
+
+-- 9, WORK, and 10, MARK; 0 where there is neither. The checkpoint is one number, its position.
+unfoldable pub memoryFault : (pixels end : ℕ) → Mem → ℕ
+memoryFault pixels end m =
+    cond (eqb (length (m .work0)) (4 * pixels))
+    (cond (eqb (length (m .work1)) (4 * pixels))
+    (cond (eqb (length (m .mark)) 1)
+    (cond (ltb end (positionOf m)) 10 0)
+    10) 9) 9
+
+-- the first fault of a call: of its inputs, else of its memory
+unfoldable pub callFault : Inputs → Mem → Verdict
+callFault i m = cond (eqb (jobFault i .number) 0) (verdict (memoryFault (pixelCount i) (endOf i) m) 0) (jobFault i)
+
+-- ---- the writes of an accepted call
+
+-- Pixel j of phase k, by the memory that it finds: phase 0 widens the destination, phase k + 1 composites layer k on the picture in work k mod 2.
+unfoldable pub pixelOf : Setting → Mem → (k j : ℕ) → Words
+pixelOf s m zero j = rgbaAt (s .dst) (s .channels) j
+pixelOf s m (suc k) j = composedAt (s .samples) (layerAt (s .table) (s .args) k) (s .width) (s .height) (rgbaAt (workOf k m) 4) j
+
+-- write c of the five at position p: the phase is p / N, its pixel p mod N
+unfoldable pub writeAt : Setting → Mem → (p c : ℕ) → Write
+writeAt s m p c = getD (fiveWrites (p / area s) (p % area s) (pixelOf s m (p / area s) (p % area s)) (p + 1)) c (Checkpoint 0)
+
+-- The memory after n writes from write t on. Writes are numbered from the job's start, five a position.
+unfoldable pub runOf : Setting → (t n : ℕ) → Mem → Mem
+runOf s t zero m = m
+runOf s t (suc n) m = let before = runOf s t n m in put (writeAt s before ((t + n) / 5) ((t + n) % 5)) before
+
+-- ---- a call
+
+-- the writes that an accepted call makes: those that it is allowed, or all that are left
+abbrev pub madeOf : Inputs → (allowance : ℕ) → Mem → ℕ
+madeOf i allowance m = min allowance (5 * (endOf i - positionOf m))
+
+-- what an accepted call leaves
+abbrev pub leftBy : Inputs → (allowance : ℕ) → Mem → Mem
+leftBy i allowance m = runOf (settingOf i) (5 * positionOf m) (madeOf i allowance m) m
+
+pub record Outcome : Type 0 where
+  pub mem : Mem
+  pub answer : Answer
+
+abbrev pub outcome : List ℕ → List ℕ → List ℕ → Answer → Outcome
+outcome work0 work1 mark r = record { mem = memOf work0 work1 mark; answer = r }
+
+abbrev pub acceptance : (stores : ℕ) → (finished : Bool) → Answer
+acceptance stores finished = record { number = 0; layer = 0; stores = stores; finished = finished }
+
+abbrev pub refusal : Verdict → Answer
+refusal v = record { number = v .number; layer = v .layer; stores = 0; finished = false }
+
+unfoldable pub acceptedOf : Inputs → (allowance : ℕ) → Mem → Outcome
+acceptedOf i allowance m =
+    let after = leftBy i allowance m in record { mem = after; answer = acceptance (madeOf i allowance m) (eqb (positionOf after) (endOf i)) }
+
+-- what a call leaves and answers
+unfoldable pub callOf : Inputs → (allowance : ℕ) → Mem → Outcome
+callOf i allowance m =
+    cond (eqb (callFault i m .number) 0) (acceptedOf i allowance m) (record { mem = m; answer = refusal (callFault i m) })

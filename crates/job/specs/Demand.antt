@@ -1,0 +1,101 @@
+-- The customer's demand 3 as a statement: a list of calls as the program makes them, by their contract, beside the same list in the reference model.
+-- Definitions only; proofs/Demand has the theorem.
+use mathlib.Core.Path.{_≡_}
+use mathlib.Core.Bool.{Bool, true, false, cond}
+use mathlib.Core.List.{List, [], _∷_}
+use Prim.Native.Nat.{ℕ, zero, suc, _+_, _*_, _/_, _%_, _<_, min}
+use lib.ListN.{take}
+use Rattle.layers.specs.Inputs.{Inputs}
+use Rattle.job.specs.Memory.{Mem, memOf, positionOf, workOf}
+use Rattle.job.specs.Call.{pixelCount, layerCount, endOf, callFault, callOf}
+use Rattle.job.specs.Model.{pictureOf, Buffer, own0, own1, other, Marker, own, foreign, Loan, lent, Call, allowed, cut, refused, Seen, modelOf}
+
+-- ---- the program's calls
+
+-- whether a place was lent the job's work buffer 0, or 1
+abbrev pub is0 : Buffer → Bool
+is0 own0 = true
+is0 own1 = false
+is0 (other xs) = false
+
+abbrev pub is1 : Buffer → Bool
+is1 own0 = false
+is1 own1 = true
+is1 (other xs) = false
+
+abbrev pub markReturned : Marker → List ℕ → List ℕ → List ℕ
+markReturned own after before = after
+markReturned (foreign xs) after before = before
+
+-- the job's memory once a call has left what it was lent as `after`
+abbrev pub returned : Loan → Mem → Mem → Mem
+returned l m after =
+    memOf
+    (cond (is0 (l .place0)) (after .work0) (cond (is0 (l .place1)) (after .work1) (m .work0)))
+    (cond (is1 (l .place0)) (after .work0) (cond (is1 (l .place1)) (after .work1) (m .work1)))
+    (markReturned (l .checkpoint) (after .mark) (m .mark))
+
+-- What a call of the program leaves and answers, by its contract. A call cut after so many writes is a call allowed so many.
+unfoldable pub programOf : Inputs → Mem → Call → Seen
+programOf i m (allowed allowance) = record { mem = callOf i allowance m .mem; told = callOf i allowance m .answer ∷ [] }
+programOf i m (cut allowance writes) = record { mem = callOf i (min writes allowance) m .mem; told = [] }
+programOf i m (refused inputs allowance loan uncut) =
+    let o = callOf inputs allowance (lent loan m) in
+    record { mem = returned loan m (o .mem); told = cond uncut (o .answer ∷ []) [] }
+
+-- ---- lists of calls
+
+-- what is seen, call after call
+unfoldable pub history : (Mem → Call → Seen) → Mem → List Call → List Seen
+history step m [] = []
+history step m (c ∷ cs) = step m c ∷ history step (step m c .mem) cs
+
+-- the job's memory after a list of calls
+unfoldable pub memoryAfter : (Mem → Call → Seen) → Mem → List Call → Mem
+memoryAfter step m [] = m
+memoryAfter step m (c ∷ cs) = memoryAfter step (step m c .mem) cs
+
+-- a call that the list has as refused is refused
+abbrev pub FairCall : Mem → Call → Type 0
+FairCall m (allowed allowance) = Unit {0}
+FairCall m (cut allowance writes) = Unit {0}
+FairCall m (refused inputs allowance loan uncut) = callFault inputs (lent loan m) .number ≡ 0 → ⊥
+
+unfoldable pub Fair : Inputs → Mem → List Call → Type 0
+Fair i m [] = Unit {0}
+Fair i m (c ∷ cs) = FairCall m c × Fair i (modelOf i m c .mem) cs
+
+-- ---- what lies under the checkpoint
+
+-- the picture beneath phase k: the destination itself beneath phase 0
+abbrev pub beneathIn : Inputs → Mem → ℕ → List ℕ
+beneathIn i m zero = i .dst
+beneathIn i m (suc k) = workOf k m
+
+abbrev pub beneathOf : Inputs → ℕ → List ℕ
+beneathOf i zero = i .dst
+beneathOf i (suc k) = pictureOf i k
+
+-- memory m, after a list of calls, at its position: the picture that is being written, right up to the position, and the whole picture beneath it
+pub record Underway (i : Inputs) (m : Mem) : Type 0 where
+  pub written :
+      take (4 * (positionOf m % pixelCount i)) (workOf (positionOf m / pixelCount i) m)
+      ≡ take (4 * (positionOf m % pixelCount i)) (pictureOf i (positionOf m / pixelCount i))
+  pub beneath : beneathIn i m (positionOf m / pixelCount i) ≡ beneathOf i (positionOf m / pixelCount i)
+
+pub record Demand3 (i : Inputs) (start : Mem) (calls : List Call) : Type 0 where
+  -- call for call, the program leaves the model's bits and gives the model's answers
+  pub same : history (programOf i) start calls ≡ history (modelOf i) start calls
+  -- and after the whole list
+  pub memory : memoryAfter (programOf i) start calls ≡ memoryAfter (modelOf i) start calls
+  -- under a finished position lies the last picture, in work (layers mod 2)
+  pub finished :
+      positionOf (memoryAfter (programOf i) start calls) ≡ endOf i
+      → workOf (layerCount i) (memoryAfter (programOf i) start calls) ≡ pictureOf i (layerCount i)
+  -- under an earlier one
+  pub earlier : positionOf (memoryAfter (programOf i) start calls) < endOf i → Underway i (memoryAfter (programOf i) start calls)
+  -- a further call, uncut and allowed n writes, gains floor(n / 5) pixels, or all that are left
+  pub gain :
+      (n : ℕ)
+      → positionOf (callOf i n (memoryAfter (programOf i) start calls) .mem)
+      ≡ min (positionOf (memoryAfter (programOf i) start calls) + n / 5) (endOf i)

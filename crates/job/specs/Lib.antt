@@ -1,0 +1,5 @@
+pub mod Memory
+pub mod Call
+pub mod Steps
+pub mod Model
+pub mod Demand

@@ -1,0 +1,90 @@
+-- What the functions beneath a call do to the memory, and what they ask. Definitions only.
+use mathlib.Core.Path.{_≡_}
+use mathlib.Core.List.{List}
+use Prim.Native.Nat.{ℕ, zero, suc, _+_, _-_, _*_, _/_, _<_, _≤_}
+use lib.ListN.{length, take}
+use Rattle.places.specs.Bounds.{slack}
+use Rattle.layers.proofs.Accepted.{GoodLayer}
+use Rattle.layers.specs.Layers.{layerAt}
+use Rattle.layers.specs.Limits.{columns, argWords}
+use Rattle.pictures.specs.declared.Words.{Words}
+use Rattle.pictures.specs.Widen.{rgbaAt, valuesOf}
+use Rattle.compose.specs.declared.Plan.{Plan}
+use Rattle.compose.specs.Compose.{composedBy}
+use Rattle.compose.specs.Ready.{Ready}
+use Rattle.job.specs.Memory.{Mem, positionOf, stored, fiveWrites}
+use Rattle.job.specs.Call.{Setting, area}
+
+-- the first c of the five writes of pixel j of picture k, with the words w: the position is raised by one
+abbrev pub someOf : (k j : ℕ) → Words → (c : ℕ) → Mem → Mem
+someOf k j w c m = stored (take c (fiveWrites k j w (positionOf m + 1))) m
+
+-- n whole pixels of picture k from pixel `from` on, pixel j with the words f j
+unfoldable pub pixelsOf : (k : ℕ) → (ℕ → Words) → (from n : ℕ) → Mem → Mem
+pixelsOf k f from zero m = m
+pixelsOf k f from (suc n) m = let before = pixelsOf k f from n m in someOf k (from + n) (f (from + n)) 5 before
+
+-- whole pixels of picture k, n of them, and the first c writes of the next
+abbrev pub stretchOf : (k : ℕ) → (ℕ → Words) → (from n c : ℕ) → Mem → Mem
+stretchOf k f from n c m = someOf k (from + n) (f (from + n)) c (pixelsOf k f from n m)
+
+-- Pixel j of phase k with its layer decoded: of the destination for phase 0, else by the plan and its source on the picture beneath.
+unfoldable pub phasePixel : (dst : List ℕ) → (channels : ℕ) → Plan → (source beneath : List ℕ) → (k j : ℕ) → Words
+phasePixel dst channels p source beneath zero j = rgbaAt dst channels j
+phasePixel dst channels p source beneath (suc k) j =
+    composedBy p source (λ x. valuesOf (rgbaAt beneath 4 x)) (rgbaAt beneath 4 j) j
+
+-- a bound of positions and of a call's writes, 2^62; it is slack
+abbrev pub mostPosition : ℕ
+mostPosition = 4611686018427387904
+
+-- what a phase asks of its plan and of the lengths of its lists: whole pictures of dw by dh pixels
+pub record Whole (p : Plan) (channels dst source work0 work1 : ℕ) : Type 0 where
+  pub ready : Ready p source
+  pub wide : p .dw ≤ slack
+  pub high : p .dh ≤ slack
+  pub some : 1 ≤ channels
+  pub most : channels ≤ 4
+  pub dst-length : dst ≡ p .dw * p .dh * channels
+  pub work0-length : work0 ≡ p .dw * p .dh * 4
+  pub work1-length : work1 ≡ p .dw * p .dh * 4
+
+-- the checkpoint is there, and n positions from it are in bounds
+pub record Raised (n : ℕ) (m : Mem) : Type 0 where
+  pub marked : 0 < length (m .mark)
+  pub bound : positionOf m + n ≤ mostPosition
+
+-- the layer of phase k (layer 0 for phase 0, which does not read it) can be decoded, and has no fault
+pub record Decodable (s : Setting) (k : ℕ) : Type 0 where
+  pub row : (k - 1) * columns + columns ≤ length (s .table)
+  pub words : (k - 1) * argWords + argWords ≤ length (s .args)
+  pub layer : GoodLayer (length (s .samples)) (layerAt (s .table) (s .args) (k - 1))
+
+-- whole pictures, a checkpoint
+pub record Sized (s : Setting) (m : Mem) : Type 0 where
+  pub wide : s .width ≤ slack
+  pub high : s .height ≤ slack
+  pub some : 1 ≤ s .channels
+  pub most : s .channels ≤ 4
+  pub dst-length : length (s .dst) ≡ area s * s .channels
+  pub work0-length : length (m .work0) ≡ area s * 4
+  pub work1-length : length (m .work1) ≡ area s * 4
+  pub marked : 0 < length (m .mark)
+
+-- what a stretch of phase k asks: it lies in the picture, and the position is at its start
+pub record Stretch (s : Setting) (k from count rest : ℕ) (m : Mem) : Type 0 where
+  pub sized : Sized s m
+  pub decodable : Decodable s k
+  pub inside : from + count ≤ area s
+  pub few : rest < 5
+  pub room : 0 < rest → from + count < area s
+  pub position : positionOf m ≡ k * area s + from
+  pub bound : positionOf m + count ≤ mostPosition
+
+-- what the writes of a call ask: so many from the position on
+pub record Due (s : Setting) (start made : ℕ) (m : Mem) : Type 0 where
+  pub sized : Sized s m
+  pub layers : (t : ℕ) → t < 5 * start + made → Decodable s (t / 5 / area s)
+  pub some : 0 < made → 0 < area s
+  pub position : positionOf m ≡ start
+  pub bound : 5 * start + made ≤ mostPosition

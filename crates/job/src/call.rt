@@ -1,0 +1,170 @@
+// A call of a job: its checks, then the writes that it is allowed, then its answer.
+ghost use mathlib.Core.Path.{_≡_};
+ghost use Prim.Native.Nat.{_+_, _*_, _≤_};
+ghost use Rattle.layers.specs.Inputs.{inputsOf};
+ghost use Rattle.job.specs.Memory.{memOf};
+ghost use Rattle.job.specs.Call.{memoryFault, callFault, outcome, acceptedOf, callOf};
+ghost use Rattle.job.specs.Steps.{mostPosition};
+use crate::Answer;
+use crate::phase::least;
+use crate::stretch::writes;
+use layers::Verdict;
+use layers::cells::natural;
+use layers::check;
+
+// 9, WORK, or 10, MARK; 0 where there is neither.
+fn memory_fault(pixels: usize, end: usize, work0: &[u32], work1: &[u32], mark: &[u64]) -> u64
+    requires { ⌜ 4 * pixels ≤ mostPosition ⌝ }
+    ensures { λ r. ⌜ r ≡ memoryFault pixels end (memOf (now (work0 .entry)) (now (work1 .entry)) (now (mark .entry))) ⌝ }
+{
+    if work0.len() != 4 * pixels {
+        return 9;
+    }
+    if work1.len() != 4 * pixels {
+        return 9;
+    }
+    if mark.len() != 1 {
+        return 10;
+    }
+    if end < mark[0] as usize {
+        return 10;
+    }
+    0
+}
+
+// The first fault of a call: of its inputs, then of its memory.
+fn fault(
+    width: i64,
+    height: i64,
+    channels: i64,
+    dst: &[u32],
+    count: i64,
+    table: &[i64],
+    args: &[u32],
+    samples: &[u32],
+    work0: &[u32],
+    work1: &[u32],
+    mark: &[u64],
+) -> Verdict
+    ensures { λ r. ⌜
+        r
+        ≡ callFault (inputsOf width height channels (now (dst .entry)) count (now (table .entry)) (now (args .entry)) (now (samples .entry))) (memOf (now (work0 .entry)) (now (work1 .entry)) (now (mark .entry)))
+        ⌝ }
+{
+    let v = check(width, height, channels, dst, count, table, args, samples);
+    if v.number != 0 {
+        return v;
+    }
+    let pixels = natural(width) * natural(height);
+    let end = (natural(count) + 1) * pixels;
+    Verdict {
+        number: memory_fault(pixels, end, work0, work1, mark),
+        layer: 0,
+    }
+}
+
+// A call without a fault.
+fn accepted(
+    width: i64,
+    height: i64,
+    channels: i64,
+    dst: &[u32],
+    count: i64,
+    table: &[i64],
+    args: &[u32],
+    samples: &[u32],
+    allowance: u64,
+    work0: &mut [u32],
+    work1: &mut [u32],
+    mark: &mut [u64],
+) -> Answer
+    requires { ⌜ callFault (inputsOf width height channels (now dst) count (now table) (now args) (now samples)) (memOf (now work0) (now work1) (now mark)) .number ≡ 0 ⌝ }
+    ensures { λ r. ⌜
+        outcome (now (work0 .exit)) (now (work1 .exit)) (now (mark .exit)) r
+        ≡ acceptedOf (inputsOf width height channels (now (dst .entry)) count (now (table .entry)) (now (args .entry)) (now (samples .entry))) allowance (memOf (now (work0 .entry)) (now (work1 .entry)) (now (mark .entry)))
+        ⌝ }
+{
+    let w = natural(width);
+    let h = natural(height);
+    let end = (natural(count) + 1) * (w * h);
+    let start = mark[0] as usize;
+    let made = least(allowance as usize, 5 * (end - start));
+    writes(
+        w,
+        h,
+        natural(channels),
+        dst,
+        table,
+        args,
+        samples,
+        start,
+        made,
+        work0,
+        work1,
+        mark,
+    );
+    let finished = mark[0] as usize == end;
+    Answer {
+        number: 0,
+        layer: 0,
+        stores: made as u64,
+        finished,
+    }
+}
+
+// A call of a job, allowed so many writes. Its whole outcome, for every input and whatever the lists hold, is `callOf`.
+pub fn run(
+    width: i64,
+    height: i64,
+    channels: i64,
+    dst: &[u32],
+    count: i64,
+    table: &[i64],
+    args: &[u32],
+    samples: &[u32],
+    allowance: u64,
+    work0: &mut [u32],
+    work1: &mut [u32],
+    mark: &mut [u64],
+) -> Answer
+    ensures { λ r. ⌜
+        outcome (now (work0 .exit)) (now (work1 .exit)) (now (mark .exit)) r
+        ≡ callOf (inputsOf width height channels (now (dst .entry)) count (now (table .entry)) (now (args .entry)) (now (samples .entry))) allowance (memOf (now (work0 .entry)) (now (work1 .entry)) (now (mark .entry)))
+        ⌝ }
+{
+    let v = fault(
+        width,
+        height,
+        channels,
+        dst,
+        count,
+        table,
+        args,
+        samples,
+        work0,
+        work1,
+        mark,
+    );
+    if v.number != 0 {
+        return Answer {
+            number: v.number,
+            layer: v.layer,
+            stores: 0,
+            finished: false,
+        };
+    }
+    accepted(
+        width,
+        height,
+        channels,
+        dst,
+        count,
+        table,
+        args,
+        samples,
+        allowance,
+        work0,
+        work1,
+        mark,
+    )
+}
