@@ -19,7 +19,7 @@ use Rattle.job.specs.Memory.{Mem, workOf, fiveWrites}
 use Rattle.job.specs.Call.{pixelCount, layerCount, endOf, settingOf, pixelOf, writeAt}
 use Rattle.job.specs.Model.{pictureOf, pictureWrites, writeSequence}
 use Rattle.job.proofs.Blocks.{length-blocks, getD-blocks}
-use Rattle.compose.proofs.Parts.{flat-pixel}
+use Rattle.pictures.proofs.FlatWords.{flat-pixel}
 
 -- ---- the pictures
 

@@ -20,7 +20,7 @@ use Rattle.job.specs.declared.Write.the-variants.{Checkpoint}
 use Rattle.job.specs.Memory.{Mem, put, stored, workIn, workOf, wordWrite, fiveWrites, positionOf}
 use Rattle.job.specs.Call.{Setting, area, pixelOf, runOf}
 use Rattle.job.specs.Steps.{someOf, pixelsOf, stretchOf, phasePixel, Whole, Raised}
-use Rattle.compose.proofs.Parts.{flat-pixel}
+use Rattle.pictures.proofs.FlatWords.{flat-pixel}
 use Rattle.job.proofs.Flat.{channel-at}
 use Rattle.job.proofs.Writes.{stored-snoc, word-at, word-mark, five-position, five-mark}
 use Rattle.job.proofs.Runs.{run-on, Under, under-pixel, under-write, uses}

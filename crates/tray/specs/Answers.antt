@@ -1,5 +1,9 @@
 -- What the exported calls answer, where a host's form of an answer differs from the library's. Definitions only.
+use mathlib.Core.Bool.{cond}
+use mathlib.Core.List.{List}
 use Prim.Native.Nat.{ℕ}
+use Rattle.job.specs.Memory.{Mem, memOf}
+use Rattle.job.specs.Call.{Outcome}
 use Rattle.names.specs.declared.Named.{Named}
 use Rattle.names.specs.declared.Named.the-variants.{Operator, Unknown}
 
@@ -15,3 +19,29 @@ named number operator = record { number = number; operator = operator }
 abbrev pub nameOf : Named → ℕ → NameAnswer
 nameOf (Operator n) before = named 0 n
 nameOf Unknown before = named 3 before
+
+-- the job's memory after a call, and its answer as four numbers: finished is 1 for yes and 0 for no
+pub record HostOutcome : Type 0 where
+  pub mem : Mem
+  pub number : ℕ
+  pub layer : ℕ
+  pub stores : ℕ
+  pub finished : ℕ
+
+abbrev pub hostOutcome : List ℕ → List ℕ → List ℕ → ℕ → ℕ → ℕ → ℕ → HostOutcome
+hostOutcome work0 work1 mark number layer stores finished = record {
+  mem = memOf work0 work1 mark;
+  number = number;
+  layer = layer;
+  stores = stores;
+  finished = finished;
+}
+
+abbrev pub jobOutcome : Outcome → HostOutcome
+jobOutcome o = record {
+  mem = o .mem;
+  number = o .answer .number;
+  layer = o .answer .layer;
+  stores = o .answer .stores;
+  finished = cond (o .answer .finished) 1 0;
+}

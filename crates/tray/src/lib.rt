@@ -1,17 +1,30 @@
-// What a host links: the names, the single composition and narrowing, for C and Rust. Each function hands its arguments on and has the contract of
+// What a host links: the names, the single composition, narrowing and the job, for C and Rust. Each function hands its arguments on and has the contract of
 // what it calls. A picture is lent as its words, the binary32 patterns, so that a host passes its float buffer as it is.
 ghost use mathlib.Core.Path.{_≡_};
+ghost use mathlib.Core.Bool.{cond};
 ghost use Prim.Native.Nat.{ℕ};
 ghost use lib.IntN.{pos};
 ghost use Rattle.names.specs.Names.{fromName};
 ghost use Rattle.layers.specs.Inputs.{inputsOf};
 ghost use Rattle.compose.specs.Single.{answered, composeOf};
 ghost use Rattle.narrowing.specs.Narrow.{narrowed, narrowOf, narrowBytesOf};
-ghost use Rattle.tray.specs.Answers.{named, nameOf};
+ghost use Rattle.job.specs.Memory.{memOf};
+ghost use Rattle.job.specs.Call.{callOf};
+ghost use Rattle.tray.specs.Answers.{named, nameOf, jobOutcome, hostOutcome};
 use names::Named;
 
 // OPERATOR, the number of a name that is not known.
 const UNKNOWN: u64 = 3;
+
+// 1 for yes, 0 for no.
+fn flag(b: bool) -> u64
+    ensures { λ r. ⌜ r ≡ cond b 1 0 ⌝ }
+{
+    if b {
+        return 1;
+    }
+    0
+}
 
 // The operator that a name spells: 0 with its number in `operator`; or 3, with `operator` as it was.
 #[no_mangle]
@@ -58,4 +71,38 @@ pub extern "C" fn tray_narrow_bytes(wanted: i64, input: &[u32], output: &mut [u8
     ensures { λ r. ⌜ narrowed r (now (output .exit)) ≡ narrowBytesOf wanted (now (input .entry)) (now (output .entry)) ⌝ }
 {
     narrowing::narrow_bytes(wanted, input, output)
+}
+
+// A call of a job, allowed so many stores: the number of the first fault, or 0; its layer, the stores made and whether the job is finished (1 or 0) are
+// written to the last three. `work0`, `work1` and `mark` hold the job between calls. A refused call leaves them as they were.
+#[no_mangle]
+pub extern "C" fn tray_job(
+    width: i64,
+    height: i64,
+    channels: i64,
+    dst: &[u32],
+    layers: i64,
+    table: &[i64],
+    args: &[u32],
+    samples: &[u32],
+    allowance: u64,
+    work0: &mut [u32],
+    work1: &mut [u32],
+    mark: &mut [u64],
+    layer: &mut u64,
+    stores: &mut u64,
+    finished: &mut u64,
+) -> u64
+    ensures { λ r. ⌜
+        hostOutcome (now (work0 .exit)) (now (work1 .exit)) (now (mark .exit)) r (now (layer .exit)) (now (stores .exit)) (now (finished .exit))
+        ≡ jobOutcome (callOf (inputsOf width height channels (now (dst .entry)) layers (now (table .entry)) (now (args .entry)) (now (samples .entry))) allowance (memOf (now (work0 .entry)) (now (work1 .entry)) (now (mark .entry))))
+        ⌝ }
+{
+    let a = job::call::run(
+        width, height, channels, dst, layers, table, args, samples, allowance, work0, work1, mark,
+    );
+    *layer = a.layer;
+    *stores = a.stores;
+    *finished = flag(a.finished);
+    a.number
 }
