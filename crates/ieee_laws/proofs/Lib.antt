@@ -1,0 +1,9 @@
+pub mod Number
+pub mod Commute
+pub mod One
+pub mod Zero
+pub mod Difference
+pub mod Twice
+pub mod Order
+pub mod Bound
+pub mod Half
