@@ -7,3 +7,6 @@ pub mod Twice
 pub mod Order
 pub mod Bound
 pub mod Half
+pub mod Clamp
+pub mod Abs
+pub mod Root
