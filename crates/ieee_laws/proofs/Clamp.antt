@@ -8,7 +8,7 @@ use lib.Ieee.Bits.{ofBits-fits}
 use Rattle.float_steps.specs.Notation.{f0, f1}
 use Rattle.float_steps.specs.Order.{smallerOf, largerOf, clampOf, unitOf}
 use Rattle.ieee_laws.specs.Same.{plain, Same}
-use Rattle.ieee_laws.proofs.Order.{lt-asym, tie, nan-lt, lt-nan, is-nan, lt-plain-l, lt-plain-r}
+use Rattle.ieee_laws.proofs.Order.{lt-asym, tie, nan-lt, lt-nan, is-nan, lt-same}
 
 pub smaller-commutes : (f : Format) (a b : Float) → T (fits f a) → T (fits f b) → Same (smallerOf a b) (smallerOf b a)
 unfolding smallerOf
@@ -40,12 +40,10 @@ larger-commutes f a b p q = go (isNan a) (isNan b) (lt b a) (lt a b) refl refl r
     go false false false true i j k l = refl
     go false false false false i j k l = tie f a b p q i j l k
 
-pub clamp-same : (f : Format) (x y lo hi : Float) → T (fits f x) → T (fits f y) → Same x y → Same (clampOf x lo hi) (clampOf y lo hi)
+pub clamp-same : (x y lo hi : Float) → Same x y → Same (clampOf x lo hi) (clampOf y lo hi)
 unfolding clampOf
-clamp-same f x y lo hi h k p =
-    let a : lt x lo ≡ lt y lo = lt-plain-l f x lo h ∙ ap (λ (z : Float). lt z lo) p ∙ sym (lt-plain-l f y lo k) in
-    let b : lt hi x ≡ lt hi y = lt-plain-r f x hi h ∙ ap (λ (z : Float). lt hi z) p ∙ sym (lt-plain-r f y hi k) in
-    (λ i. plain (cond (a i) lo (cond (b i) hi x))) ∙ go (lt y lo) (lt hi y)
+clamp-same x y lo hi p =
+    (λ i. plain (cond (lt-same x y lo lo p refl i) lo (cond (lt-same hi hi x y refl p i) hi x))) ∙ go (lt y lo) (lt hi y)
   where
     go : (u v : Bool) → Same (cond u lo (cond v hi x)) (cond u lo (cond v hi y))
     go true v = refl
@@ -72,8 +70,8 @@ unfolding clampOf
 unit-fits x h = cond-fits binary32 (lt x f0) f0 (cond (lt f1 x) f1 x) zero-fits (cond-fits binary32 (lt f1 x) f1 x one-fits h)
 
 -- ---- clamp to 0 and 1
-pub unit-same : (x y : Float) → T (fits binary32 x) → T (fits binary32 y) → Same x y → Same (unitOf x) (unitOf y)
-unit-same x y h k p = clamp-same binary32 x y f0 f1 h k p
+pub unit-same : (x y : Float) → Same x y → Same (unitOf x) (unitOf y)
+unit-same x y p = clamp-same x y f0 f1 p
 
 pub unit-twice : (v : Float) → unitOf (unitOf v) ≡ unitOf v
 unfolding clampOf

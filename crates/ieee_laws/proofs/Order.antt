@@ -1,7 +1,7 @@
 -- The order of values. It is not both ways, a tie is the same value, equality is symmetric and is sameness, and the two zeros stand at one place. Over the format where it matters.
 -- Assumes nothing.
 use mathlib.Core.Path.{_≡_, refl, sym, ap, _∙_, subst}
-use mathlib.Core.Bool.{Bool, true, false, _&&_, _||_, Bool·beq, true≢false}
+use mathlib.Core.Bool.{Bool, true, false, not, _&&_, _||_, Bool·beq, true≢false}
 use Prim.Native.Nat.{ℕ, zero, suc, _+_, _*_, _≤_, _<_, zero-le}
 use native.Mathlib.Nat.{zero-lt-suc, zero-mul, zero-add, add-zero, mul-pos, le-antisymm, lt-irrefl}
 use native.Mathlib.Omega.{arith}
@@ -9,9 +9,9 @@ use lib.IntN.{ℤ, pos}
 use lib.Dec.{T, ltb, eqb, eqb→eq}
 use lib.Ieee.{Float, nan, inf, fin, Format, up, down, below, level, lt, le, eq, isNan, fits}
 use lib.Ieee.Fits.{up-pos, down-pos, and-l, and-r}
-use borrow.Author.Tests.{ltb-true, ltb-false, eqb-true, le-ltb, eq-eqb}
+use borrow.Author.Tests.{ltb-true, ltb-false, eqb-true, lt-ltb, le-ltb, eq-eqb}
 use Rattle.ieee_laws.specs.Same.{plain, Same, Zero}
-use Rattle.ieee_laws.proofs.Number.{zero-exp, one-way}
+use Rattle.ieee_laws.proofs.Number.{one-way}
 
 -- ---- sizes
 pub no-size : (m : ℕ) (e d : ℤ) → m * up e * down d ≡ 0 → m ≡ 0
@@ -155,43 +155,49 @@ eq-same f (fin s m e) (fin t n d) p q h =
     eq-fin f s m e t n d (Bool·beq s t) p q refl (eqb→eq a b (and-l (eqb a b) (Bool·beq s t || eqb a 0) h)) (and-r (eqb a b) (Bool·beq s t || eqb a 0) h)
 
 -- ---- the two zeros
-none : (d : ℤ) → 0 * 1 * down d ≡ 0
-none d = ap (λ (z : ℕ). z * down d) (zero-mul 1) ∙ zero-mul (down d)
+scaled : (b k : ℕ) → 0 < k → ltb 0 (b * k) ≡ ltb 0 (b * 1)
+scaled zero k h = ap (λ (z : ℕ). ltb 0 z) (zero-mul k ∙ sym (zero-mul 1))
+scaled (suc b) k h = lt-ltb 0 (suc b * k) (mul-pos (zero-lt-suc b) h) ∙ sym (lt-ltb 0 (suc b * 1) (mul-pos (zero-lt-suc b) (zero-lt-suc 0)))
 
-left : (s : Bool) (a : ℕ) (t : Bool) (b : ℕ) → a ≡ 0 → below s a t b ≡ below false a t b
-left false a t b e = refl
-left true a false b e = ap (λ (z : ℕ). ltb 0 (z + b)) e ∙ ap (λ (z : ℕ). ltb 0 z) (zero-add b) ∙ sym (ap (λ (z : ℕ). ltb z b) e)
-left true a true b e = ap (λ (z : ℕ). ltb b z) e ∙ le-ltb b 0 zero-le
+from-zero : (s : Bool) (a : ℕ) (t : Bool) (b : ℕ) → a ≡ 0 → below s a t b ≡ (not t && ltb 0 b)
+from-zero false a false b e = ap (λ (z : ℕ). ltb z b) e
+from-zero false a true b e = refl
+from-zero true a false b e = ap (λ (z : ℕ). ltb 0 (z + b)) e ∙ ap (λ (z : ℕ). ltb 0 z) (zero-add b)
+from-zero true a true b e = ap (λ (z : ℕ). ltb b z) e ∙ le-ltb b 0 zero-le
 
-right : (t : Bool) (b : ℕ) (s : Bool) (a : ℕ) → a ≡ 0 → below t b s a ≡ below t b false a
-right t b false a e = refl
-right false b true a e = sym (ap (λ (z : ℕ). ltb b z) e ∙ le-ltb b 0 zero-le)
-right true b true a e = ap (λ (z : ℕ). ltb z b) e ∙ ap (λ (z : ℕ). ltb 0 z) (sym (add-zero b)) ∙ sym (ap (λ (z : ℕ). ltb 0 (b + z)) e)
+to-zero : (t : Bool) (b : ℕ) (s : Bool) (a : ℕ) → a ≡ 0 → below t b s a ≡ (t && ltb 0 b)
+to-zero false b false a e = ap (λ (z : ℕ). ltb b z) e ∙ le-ltb b 0 zero-le
+to-zero false b true a e = refl
+to-zero true b false a e = ap (λ (z : ℕ). ltb 0 (b + z)) e ∙ ap (λ (z : ℕ). ltb 0 z) (add-zero b)
+to-zero true b true a e = ap (λ (z : ℕ). ltb z b) e
 
-lt-zero-l : (s : Bool) (y : Float) → lt (fin s 0 (pos 0)) y ≡ lt (fin false 0 (pos 0)) y
+none : (e d : ℤ) → 0 * up e * down d ≡ 0
+none e d = ap (λ (z : ℕ). z * down d) (zero-mul (up e)) ∙ zero-mul (down d)
+
+pub lt-plain-l : (x y : Float) → lt x y ≡ lt (plain x) y
 unfolding lt
-lt-zero-l s nan = refl
-lt-zero-l s (inf t) = refl
-lt-zero-l s (fin t n d) = left s (0 * 1 * down d) t (n * up d * 1) (none d)
+lt-plain-l nan y = refl
+lt-plain-l (inf s) y = refl
+lt-plain-l (fin s (suc m) e) y = refl
+lt-plain-l (fin s zero e) nan = refl
+lt-plain-l (fin s zero e) (inf t) = refl
+lt-plain-l (fin s zero e) (fin t n d) =
+    from-zero s (0 * up e * down d) t (n * up d * down e) (none e d)
+    ∙ ap (λ (b : Bool). not t && b) (scaled (n * up d) (down e) (down-pos e))
+    ∙ sym (from-zero false (0 * 1 * down d) t (n * up d * 1) (none (pos 0) d))
 
-lt-zero-r : (s : Bool) (y : Float) → lt y (fin s 0 (pos 0)) ≡ lt y (fin false 0 (pos 0))
+pub lt-plain-r : (x y : Float) → lt y x ≡ lt y (plain x)
 unfolding lt
-lt-zero-r s nan = refl
-lt-zero-r s (inf t) = refl
-lt-zero-r s (fin t n d) = right t (n * up d * 1) s (0 * 1 * down d) (none d)
+lt-plain-r nan y = refl
+lt-plain-r (inf s) y = refl
+lt-plain-r (fin s (suc m) e) y = refl
+lt-plain-r (fin s zero e) nan = refl
+lt-plain-r (fin s zero e) (inf t) = refl
+lt-plain-r (fin s zero e) (fin t n d) =
+    to-zero t (n * up d * down e) s (0 * up e * down d) (none e d)
+    ∙ ap (λ (b : Bool). t && b) (scaled (n * up d) (down e) (down-pos e))
+    ∙ sym (to-zero t (n * up d * 1) false (0 * 1 * down d) (none (pos 0) d))
 
-pub lt-plain-l : (f : Format) (x y : Float) → T (fits f x) → lt x y ≡ lt (plain x) y
-lt-plain-l f nan y h = refl
-lt-plain-l f (inf s) y h = refl
-lt-plain-l f (fin s (suc m) e) y h = refl
-lt-plain-l f (fin s zero e) y h = ap (λ (g : ℤ). lt (fin s 0 g) y) (zero-exp f s e h) ∙ lt-zero-l s y
-
-pub lt-plain-r : (f : Format) (x y : Float) → T (fits f x) → lt y x ≡ lt y (plain x)
-lt-plain-r f nan y h = refl
-lt-plain-r f (inf s) y h = refl
-lt-plain-r f (fin s (suc m) e) y h = refl
-lt-plain-r f (fin s zero e) y h = ap (λ (g : ℤ). lt y (fin s 0 g)) (zero-exp f s e h) ∙ lt-zero-r s y
-
-pub lt-same : (f : Format) (x x' y y' : Float) → T (fits f x) → T (fits f x') → T (fits f y) → T (fits f y') → Same x x' → Same y y' → lt x y ≡ lt x' y'
-lt-same f x x' y y' h h' k k' p q =
-    lt-plain-l f x y h ∙ ap (λ (z : Float). lt z y) p ∙ sym (lt-plain-l f x' y h') ∙ lt-plain-r f y x' k ∙ ap (λ (z : Float). lt x' z) q ∙ sym (lt-plain-r f y' x' k')
+pub lt-same : (x x' y y' : Float) → Same x x' → Same y y' → lt x y ≡ lt x' y'
+lt-same x x' y y' p q =
+    lt-plain-l x y ∙ ap (λ (z : Float). lt z y) p ∙ sym (lt-plain-l x' y) ∙ lt-plain-r y x' ∙ ap (λ (z : Float). lt x' z) q ∙ sym (lt-plain-r y' x')
