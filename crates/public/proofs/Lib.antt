@@ -1,0 +1,5 @@
+pub mod Constants
+pub mod Pixels
+pub mod Fractions
+pub mod Blends
+pub mod Stored

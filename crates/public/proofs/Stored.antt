@@ -1,0 +1,110 @@
+-- Every operator that W3C defines is W3C's: each colour of the compositor's pixel is W3C's formula with the steps of BlendDifferences.antt, for all alphas, and outside
+-- its inputs; the alpha is the union. The formula is proved once for each convention, over the blend function. Assumes nothing.
+use mathlib.Core.Path.{_≡_, refl, sym, ap, _∙_}
+use mathlib.Core.Bool.{Bool, true, false, cond}
+use lib.Dec.{T}
+use lib.Ieee.{Float, binary32, fits, lt}
+use lib.Ieee.Fits.{mul-fits}
+use Rattle.float_steps.specs.Notation.{_⊕_, _⊖_, _⊗_, _⊘_, f0, f1}
+use Rattle.float_steps.specs.Order.{unitOf}
+use Rattle.ieee_laws.specs.Same.{plain, Same}
+use Rattle.ieee_laws.proofs.Zero.{add-same, mul-same, div-same}
+use Rattle.ieee_laws.proofs.Clamp.{unit-same}
+use Rattle.operators.specs.declared.Convention.{Convention}
+use Rattle.operators.specs.declared.Convention.the-variants.{Premult, Divided, OnPremult, PremultOnly}
+use Rattle.operators.specs.Conventions.{convention}
+use Rattle.pictures.specs.declared.Rgba.{Rgba}
+use Rattle.pixels.specs.declared.Params.{Params}
+use Rattle.pixels.specs.Blend.{blendOf}
+use Rattle.pixels.specs.Channel.{channelOf, overUnionOf, overAlphaOf}
+use Rattle.pixels.specs.Pixel.{pixelOf, mathematicalOf}
+use Rattle.public.specs.Compositing.{Mode, multiply, screen, overlay, darken, lighten, colorDodge, colorBurn, hardLight, softLight, difference, exclusion, B}
+use Rattle.public.specs.Operators.{Colour, at, Held, blendOp}
+use Rattle.public.specs.BlendDifferences.{union, uncovered, spread, coBy, overUnion, blended, storedBy, StoredOutside}
+use Rattle.public.proofs.Blends.{blend-is}
+use Rattle.public.proofs.Pixels.{held-at, on-colours}
+
+-- ---- one colour under a convention
+blended-fits : (k : Convention) (C α : Float) → T (fits binary32 C) → T (fits binary32 (blended k C α))
+blended-fits Premult C α h = h
+blended-fits Divided C α h = h
+blended-fits OnPremult C α h = mul-fits binary32 C α
+blended-fits PremultOnly C α h = mul-fits binary32 C α
+
+module _ (s sa d da : Float) where
+  spread-same : (v w : Float) → Same v w → Same (coBy spread v s sa d da) (coBy spread w s sa d da)
+  spread-same v w e =
+      let t = uncovered s sa d da in
+      add-same binary32 (sa ⊗ da ⊗ v) (sa ⊗ da ⊗ w) t t (mul-same binary32 (sa ⊗ da) (sa ⊗ da) v w refl e) refl
+
+  pub over-union-same : (v w a : Float) → Same v w → Same (overUnion v a) (overUnion w a)
+  over-union-same v w a e = go (lt f0 a)
+    where
+      go : (b : Bool) → Same (cond b (v ⊘ a) f0) (cond b (w ⊘ a) f0)
+      go true = div-same binary32 v w a e
+      go false = refl
+
+  over-union-is : (v a : Float) → overUnionOf v a ≡ overUnion v a
+  unfolding overUnionOf
+  over-union-is v a = refl
+
+  -- a blend function f that gives what B does
+  by-convention : (k : Convention) (f : Float → Float → Float) (m : Mode) → Same (f (blended k s sa) (blended k d da)) (B m (blended k d da) (blended k s sa))
+      → Same (channelOf k f s d sa da) (storedBy spread k m s sa d da)
+  by-convention Premult f m e =
+      let x = unitOf (f s d) in
+      let y = unitOf (B m d s) in
+      unit-same (coBy spread x s sa d da) (coBy spread y s sa d da) (spread-same x y (unit-same (f s d) (B m d s) e))
+  by-convention Divided f m e =
+      let x = coBy spread (f s d) s sa d da in
+      let y = coBy spread (B m d s) s sa d da in
+      let a = union sa da in
+      ap (λ (z : Float). plain (unitOf z)) (over-union-is x a) ∙ unit-same (overUnion x a) (overUnion y a) (over-union-same x y a (spread-same (f s d) (B m d s) e))
+  by-convention OnPremult f m e =
+      let t = uncovered s sa d da in
+      let x = f (s ⊗ sa) (d ⊗ da) in
+      let y = B m (d ⊗ da) (s ⊗ sa) in
+      unit-same (unitOf x ⊕ t) (unitOf y ⊕ t) (add-same binary32 (unitOf x) (unitOf y) t t (unit-same x y e) refl)
+  by-convention PremultOnly f m e =
+      let x = f (s ⊗ sa) (d ⊗ da) in
+      let y = B m (d ⊗ da) (s ⊗ sa) in
+      unit-same (unitOf x) (unitOf y) (unit-same x y e)
+
+-- ---- the pixel
+module _ (p : Params) (s d : Rgba) where
+  pub union-alpha : (m : Mode) → pixelOf (blendOp m) p s d .a ≡ union (s .a) (d .a)
+  union-alpha multiply = refl
+  union-alpha screen = refl
+  union-alpha overlay = refl
+  union-alpha darken = refl
+  union-alpha lighten = refl
+  union-alpha colorDodge = refl
+  union-alpha colorBurn = refl
+  union-alpha hardLight = refl
+  union-alpha softLight = refl
+  union-alpha difference = refl
+  union-alpha exclusion = refl
+
+  painted : (c : Colour) (m : Mode) → at c (pixelOf (blendOp m) p s d) ≡ channelOf (convention (blendOp m)) (blendOf (blendOp m) p) (at c s) (at c d) (s .a) (d .a)
+  painted c m = line m ∙ on-colours c (λ x y. channelOf (convention (blendOp m)) (blendOf (blendOp m) p) x y (s .a) (d .a)) s d (overAlphaOf (s .a) (d .a))
+    where
+      line : (m : Mode) → at c (pixelOf (blendOp m) p s d) ≡ at c (mathematicalOf (blendOp m) p s d)
+      line multiply = refl
+      line screen = refl
+      line overlay = refl
+      line darken = refl
+      line lighten = refl
+      line colorDodge = refl
+      line colorBurn = refl
+      line hardLight = refl
+      line softLight = refl
+      line difference = refl
+      line exclusion = refl
+
+  pub stored-is : (m : Mode) → Held s → Held d → (c : Colour) → StoredOutside m (at c s) (s .a) (at c d) (d .a)
+      → Same (at c (pixelOf (blendOp m) p s d)) (storedBy spread (convention (blendOp m)) m (at c s) (s .a) (at c d) (d .a))
+  stored-is m hs hd c x =
+      let k = convention (blendOp m) in
+      ap plain (painted c m)
+      ∙ by-convention (at c s) (s .a) (at c d) (d .a) k (blendOf (blendOp m) p) m
+      (blend-is m p (blended k (at c s) (s .a)) (blended k (at c d) (d .a)) (blended-fits k (at c s) (s .a) (held-at c s hs)) (blended-fits k (at c d) (d .a) (held-at c d hd)) x)

@@ -1,0 +1,74 @@
+-- Where the compositor departs from W3C: the steps that are taken otherwise, by the operator's convention (document 01: "`convention` decides division by the union
+-- alpha"), and the inputs at which a blend function differs. docs/DIFFERENCES.md lists them, and Rows.antt has an input for each. Definitions only.
+use mathlib.Core.Path.{_≡_}
+use mathlib.Core.Bool.{Bool, true, false, cond, _&&_}
+use lib.Dec.{T}
+use lib.Ieee.{Float, nan, inf, fin, binary32, lt, eq}
+use Rattle.operators.specs.declared.Convention.{Convention}
+use Rattle.operators.specs.declared.Convention.the-variants.{Premult, Divided, OnPremult, PremultOnly}
+use Rattle.operators.specs.Conventions.{convention}
+use Rattle.float_steps.specs.Notation.{_⊕_, _⊖_, _⊗_, _⊘_, f0, f1, half}
+use Rattle.float_steps.specs.Order.{unitOf}
+use Rattle.ieee_laws.specs.Size.{doubles}
+use Rattle.public.specs.Compositing.{Mode, multiply, screen, overlay, darken, lighten, colorDodge, colorBurn, hardLight, softLight, difference, exclusion, B, coWith}
+use Rattle.public.specs.Operators.{blendOp}
+
+-- ---- the steps
+-- alpha: the product is taken from the sum, for αs + αb × (1 − αs)
+abbrev pub union : Float → Float → Float
+union αs αb = αs ⊕ αb ⊖ αs ⊗ αb
+
+-- the two terms in which only one picture lies
+abbrev pub uncovered : Float → Float → Float → Float → Float
+uncovered Cs αs Cb αb = αs ⊗ (f1 ⊖ αb) ⊗ Cs ⊕ αb ⊗ (f1 ⊖ αs) ⊗ Cb
+
+-- co as printed, and with αs multiplied into both parts of Cs' before they are added
+pub data Mixing : Type 0 where
+  printed spread : Mixing
+
+abbrev pub coBy : Mixing → Float → Float → Float → Float → Float → Float
+coBy printed v Cs αs Cb αb = coWith v Cs αs Cb αb
+coBy spread v Cs αs Cb αb = αs ⊗ αb ⊗ v ⊕ uncovered Cs αs Cb αb
+
+-- divided by an alpha that is above 0, and 0 otherwise
+abbrev pub overUnion : Float → Float → Float
+overUnion v a = cond (lt f0 a) (v ⊘ a) f0
+
+-- what a convention blends. Document 01's own: Darken, and with it Exclusion, blends the premultiplied colours
+abbrev pub blended : Convention → Float → Float → Float
+blended Premult C α = C
+blended Divided C α = C
+blended OnPremult C α = C ⊗ α
+blended PremultOnly C α = C ⊗ α
+
+-- W3C's colour with these steps, and with the clamps to 0 and 1 where a convention has them. Document 01's own: Exclusion has no uncovered terms.
+abbrev pub storedBy : Mixing → Convention → Mode → Float → Float → Float → Float → Float
+storedBy g Premult m Cs αs Cb αb = unitOf (coBy g (unitOf (B m Cb Cs)) Cs αs Cb αb)
+storedBy g Divided m Cs αs Cb αb = unitOf (overUnion (coBy g (B m Cb Cs) Cs αs Cb αb) (union αs αb))
+storedBy g OnPremult m Cs αs Cb αb = unitOf (unitOf (B m (Cb ⊗ αb) (Cs ⊗ αs)) ⊕ uncovered Cs αs Cb αb)
+storedBy g PremultOnly m Cs αs Cb αb = unitOf (unitOf (B m (Cb ⊗ αb) (Cs ⊗ αs)))
+
+-- ---- the inputs
+abbrev pub infinite : Float → Bool
+infinite nan = false
+infinite (inf s) = true
+infinite (fin s m e) = false
+
+-- The blends are equal where this holds. A half: the compositor takes the second branch, which is W3C's first but where the other colour is infinite. Dodge and burn
+-- test ≤ 0 and ≥ 1, where W3C tests = 0 and = 1; and of ColorBurn's two tests the compositor makes W3C's second one first. Exclusion doubles the other colour.
+abbrev pub BlendOutside : Mode → Float → Float → Type 0
+BlendOutside multiply Cs Cb = Unit {0}
+BlendOutside screen Cs Cb = Unit {0}
+BlendOutside overlay Cs Cb = eq Cb half && infinite Cs ≡ false
+BlendOutside darken Cs Cb = Unit {0}
+BlendOutside lighten Cs Cb = Unit {0}
+BlendOutside colorDodge Cs Cb = (lt Cb f0 ≡ false) × (lt f1 Cs ≡ false)
+BlendOutside colorBurn Cs Cb = (lt Cs f0 ≡ false) × (lt f1 Cb ≡ false) × (eq Cs f0 && eq Cb f1 ≡ false)
+BlendOutside hardLight Cs Cb = eq Cs half && infinite Cb ≡ false
+BlendOutside softLight Cs Cb = Unit {0}
+BlendOutside difference Cs Cb = Unit {0}
+BlendOutside exclusion Cs Cb = T (doubles binary32 Cs) × T (doubles binary32 Cb)
+
+-- and the stored colours where this does
+abbrev pub StoredOutside : Mode → Float → Float → Float → Float → Type 0
+StoredOutside m Cs αs Cb αb = BlendOutside m (blended (convention (blendOp m)) Cs αs) (blended (convention (blendOp m)) Cb αb)

@@ -1,0 +1,143 @@
+-- Where the compositor departs from Porter and Duff: the form in which a result is stored (document 01), the steps that are taken otherwise, and the inputs at which
+-- that shows. docs/DIFFERENCES.md lists them, and Rows.antt has an input for each. Definitions only.
+use mathlib.Core.Path.{_≡_}
+use mathlib.Core.Bool.{Bool, true, false}
+use lib.Dec.{T}
+use lib.Ieee.{Float, lt, le, eq}
+use lib.Ieee.Scale.{finite}
+use Rattle.float_steps.specs.Notation.{_⊕_, _⊖_, _⊗_, _⊘_, f0, f1}
+use Rattle.float_steps.specs.Order.{smallerOf}
+use Rattle.ieee_laws.specs.Same.{Same}
+use Rattle.public.specs.PorterDuff.{Operator, clear, A, B, AoverB, BoverA, AinB, BinA, AoutB, BoutA, AatopB, BatopA, AxorB, AplusB, fraction, FA, FB, coverage}
+
+-- ---- the form: multiplied by alpha as in the paper, straight, divided by alpha; and Plus is cut at 1
+pub data Form : Type 0 where
+  premultiplied straight divided capped : Form
+
+abbrev pub form : Operator → Form
+form clear = premultiplied
+form A = straight
+form B = straight
+form AoverB = divided
+form BoverA = divided
+form AinB = premultiplied
+form BinA = straight
+form AoutB = premultiplied
+form BoutA = straight
+form AatopB = premultiplied
+form BatopA = premultiplied
+form AxorB = premultiplied
+form AplusB = capped
+
+-- a colour c and an alpha a, as stored in a form, are the paper's colour p with the paper's coverage q
+abbrev pub IsColour : Form → Float → Float → Float → Float → Type 0
+IsColour premultiplied c a p q = Same c p
+IsColour straight c a p q = Same (c ⊗ a) p
+IsColour divided c a p q = c ≡ p ⊘ q
+IsColour capped c a p q = c ≡ smallerOf p f1
+
+abbrev pub IsAlpha : Form → Float → Float → Type 0
+IsAlpha premultiplied a q = Same a q
+IsAlpha straight a q = Same a q
+IsAlpha divided a q = Same a q
+IsAlpha capped a q = a ≡ smallerOf q f1
+
+-- ---- the steps
+-- c × F, where c = C × α: printed, or with the product α × F taken first
+pub data Grouping : Type 0 where
+  printed coverageFirst : Grouping
+
+abbrev pub part : Grouping → Float → Float → Float → Float
+part printed C α F = C ⊗ α ⊗ F
+part coverageFirst C α F = C ⊗ (α ⊗ F)
+
+-- In and Out, of the source's colour
+abbrev pub groupA : Operator → Grouping
+groupA clear = printed
+groupA A = printed
+groupA B = printed
+groupA AoverB = printed
+groupA BoverA = printed
+groupA AinB = coverageFirst
+groupA BinA = printed
+groupA AoutB = coverageFirst
+groupA BoutA = printed
+groupA AatopB = printed
+groupA BatopA = printed
+groupA AxorB = printed
+groupA AplusB = printed
+
+-- DstIn and DstOut, of the destination's
+abbrev pub groupB : Operator → Grouping
+groupB clear = printed
+groupB A = printed
+groupB B = printed
+groupB AoverB = printed
+groupB BoverA = printed
+groupB AinB = printed
+groupB BinA = coverageFirst
+groupB AoutB = printed
+groupB BoutA = coverageFirst
+groupB AatopB = printed
+groupB BatopA = printed
+groupB AxorB = printed
+groupB AplusB = printed
+
+-- the paper's colour with that step
+abbrev pub colourBy : Operator → Float → Float → Float → Float → Float
+colourBy o CA αA CB αB = part (groupA o) CA αA (fraction (FA o) αB) ⊕ part (groupB o) CB αB (fraction (FB o) αA)
+
+-- the paper's coverage, where Atop and DstAtop have the one picture's coverage for αA × αB + αB × (1 − αA), which is it but for rounding
+abbrev pub coverageBy : Operator → Float → Float → Float
+coverageBy clear αA αB = coverage clear αA αB
+coverageBy A αA αB = coverage A αA αB
+coverageBy B αA αB = coverage B αA αB
+coverageBy AoverB αA αB = coverage AoverB αA αB
+coverageBy BoverA αA αB = coverage BoverA αA αB
+coverageBy AinB αA αB = coverage AinB αA αB
+coverageBy BinA αA αB = coverage BinA αA αB
+coverageBy AoutB αA αB = coverage AoutB αA αB
+coverageBy BoutA αA αB = coverage BoutA αA αB
+coverageBy AatopB αA αB = αB
+coverageBy BatopA αA αB = αA
+coverageBy AxorB αA αB = coverage AxorB αA αB
+coverageBy AplusB αA αB = coverage AplusB αA αB
+
+-- ---- the inputs
+-- DstIn and DstOut clear a pixel whose alpha a is not above 0. That is no difference where a is a zero and the colour C finite.
+pub record Clears (a C : Float) : Type 0 where
+  pub above : lt a f0 ≡ false
+  pub calm : eq a f0 ≡ true → T (finite C)
+
+-- The colours are equal where this holds: a term with the fraction 0, which is left out, is a zero, since its colour is finite; Over's coverage, by which
+-- it divides, is above 0 or a NaN
+abbrev pub ColourOutside : Operator → Float → Float → Float → Float → Type 0
+ColourOutside clear CA αA CB αB = T (finite (CA ⊗ αA)) × T (finite (CB ⊗ αB))
+ColourOutside A CA αA CB αB = T (finite (CB ⊗ αB))
+ColourOutside B CA αA CB αB = T (finite (CA ⊗ αA))
+ColourOutside AoverB CA αA CB αB = le (coverage AoverB αA αB) f0 ≡ false
+ColourOutside BoverA CA αA CB αB = le (coverage BoverA αA αB) f0 ≡ false
+ColourOutside AinB CA αA CB αB = T (finite (CB ⊗ αB))
+ColourOutside BinA CA αA CB αB = T (finite (CA ⊗ αA)) × Clears (αA ⊗ αB) CB
+ColourOutside AoutB CA αA CB αB = T (finite (CB ⊗ αB))
+ColourOutside BoutA CA αA CB αB = T (finite (CA ⊗ αA)) × Clears (αB ⊗ (f1 ⊖ αA)) CB
+ColourOutside AatopB CA αA CB αB = Unit {0}
+ColourOutside BatopA CA αA CB αB = Unit {0}
+ColourOutside AxorB CA αA CB αB = Unit {0}
+ColourOutside AplusB CA αA CB αB = Unit {0}
+
+-- and the alphas where this does: the same of the coverages, and no alpha below 0 is cleared
+abbrev pub AlphaOutside : Operator → Float → Float → Type 0
+AlphaOutside clear αA αB = T (finite αA) × T (finite αB)
+AlphaOutside A αA αB = T (finite αB)
+AlphaOutside B αA αB = T (finite αA)
+AlphaOutside AoverB αA αB = lt (coverage AoverB αA αB) f0 ≡ false
+AlphaOutside BoverA αA αB = lt (coverage BoverA αA αB) f0 ≡ false
+AlphaOutside AinB αA αB = T (finite αB)
+AlphaOutside BinA αA αB = T (finite αA) × (lt (αA ⊗ αB) f0 ≡ false)
+AlphaOutside AoutB αA αB = T (finite αB)
+AlphaOutside BoutA αA αB = T (finite αA) × (lt (αB ⊗ (f1 ⊖ αA)) f0 ≡ false)
+AlphaOutside AatopB αA αB = Unit {0}
+AlphaOutside BatopA αA αB = Unit {0}
+AlphaOutside AxorB αA αB = Unit {0}
+AlphaOutside AplusB αA αB = Unit {0}

@@ -1,0 +1,5 @@
+pub mod PorterDuff
+pub mod Compositing
+pub mod Operators
+pub mod FractionDifferences
+pub mod BlendDifferences
