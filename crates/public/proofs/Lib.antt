@@ -3,3 +3,4 @@ pub mod Pixels
 pub mod Fractions
 pub mod Blends
 pub mod Stored
+pub mod Rows

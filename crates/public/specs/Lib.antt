@@ -3,3 +3,4 @@ pub mod Compositing
 pub mod Operators
 pub mod FractionDifferences
 pub mod BlendDifferences
+pub mod Rows
