@@ -4,3 +4,6 @@ pub mod Fractions
 pub mod Blends
 pub mod Stored
 pub mod Rows
+pub mod InRange
+pub mod FractionEdges
+pub mod BlendEdges

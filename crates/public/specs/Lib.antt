@@ -4,3 +4,4 @@ pub mod Operators
 pub mod FractionDifferences
 pub mod BlendDifferences
 pub mod Rows
+pub mod Range

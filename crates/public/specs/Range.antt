@@ -1,0 +1,20 @@
+-- Where both documents' numbers lie. Definitions only.
+use mathlib.Core.Path.{_≡_}
+use mathlib.Core.Bool.{Bool, false, _||_}
+use lib.Dec.{T}
+use lib.Ieee.{Float, binary32, fits, lt, eq, isNan}
+use Rattle.float_steps.specs.Notation.{f0, f1}
+
+-- a number of binary32 from 0 to 1, either zero included
+pub record InUnit (x : Float) : Type 0 where
+  pub held : T (fits binary32 x)
+  pub number : isNan x ≡ false
+  pub low : lt x f0 ≡ false
+  pub high : lt f1 x ≡ false
+
+-- one of two alphas is 1, or 0
+abbrev pub opaque : Float → Float → Bool
+opaque sa da = eq sa f1 || eq da f1
+
+abbrev pub absent : Float → Float → Bool
+absent sa da = eq sa f0 || eq da f0
