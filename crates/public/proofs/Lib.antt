@@ -7,3 +7,4 @@ pub mod Rows
 pub mod InRange
 pub mod FractionEdges
 pub mod BlendEdges
+pub mod BlendRange

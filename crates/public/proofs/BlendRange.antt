@@ -1,0 +1,317 @@
+-- W3C's B of two numbers from 0 to 1: it is an f32, six of the eleven stay within 0 to 1 as rounded, and all are finite. Assumes nothing.
+use mathlib.Core.Path.{_≡_, refl, sym, ap, _∙_, subst}
+use mathlib.Core.Bool.{Bool, true, false, cond, _||_, _&&_, true≢false}
+use Prim.Native.Nat.{ℕ, zero, suc, _+_, _-_, _*_, _^_, _≤_, _<_}
+use native.Mathlib.Nat.{le-trans, le-of-eq, mul-le-mul-right, mul-pos, mul-assoc, mul-comm, mul-one, zero-mul}
+use native.Mathlib.Omega.{arith}
+use lib.IntN.{ℤ}
+use lib.Dec.{T, ltb, eqb, lit≤}
+use lib.Ieee.{Float, nan, inf, fin, binary32, up, down, ofBits, add, sub, mul, div, neg, sum, round, fits, lt, le, eq, isNan}
+use lib.Ieee.Fits.{mul-fits, add-fits, sub-fits, div-fits, cond-fits, down-pos}
+use borrow.Author.Tests.{ltb-true, ltb-false, eq-eqb}
+use Rattle.float_steps.specs.Notation.{_⊕_, _⊖_, _⊗_, _⊘_, lit, f0, f1, f2, half}
+use Rattle.float_steps.specs.Order.{smallerOf, largerOf}
+use Rattle.float_steps.specs.Root.{sqrtOf}
+use Rattle.float_steps.specs.Sign.{absOf}
+use Rattle.ieee_laws.specs.Same.{plain, Same}
+use Rattle.ieee_laws.specs.Size.{AtMost, Unsigned}
+use Rattle.ieee_laws.proofs.Zero.{plain-twice, sub-same, div-plain}
+use Rattle.ieee_laws.proofs.Order.{lt-same}
+use Rattle.ieee_laws.proofs.Bound.{mul-bound, add-bound, sub-bound, round-bound, round-unsigned, at-most-more, cond-bound, plain-bound, same-bound}
+use Rattle.ieee_laws.proofs.Clamp.{smaller-fits, larger-fits, zero-fits, one-fits}
+use Rattle.ieee_laws.proofs.Abs.{abs-fits, abs-bound, abs-unsigned}
+use Rattle.ieee_laws.proofs.Root.{root-bound}
+use Rattle.public.specs.Compositing.{Mode, multiply, screen, overlay, darken, lighten, colorDodge, colorBurn, hardLight, softLight, difference, exclusion, B, hardLightB, softLightB, D, colorDodgeB, colorBurnB}
+use Rattle.public.specs.Range.{InUnit}
+use Rattle.public.proofs.InRange.{at-most-one, unsigned, not-below, in-unit, zero-in, one-in, cond-in, product-in, one-less, complement-in}
+
+-- ---- B is an f32
+hard-fits : (b s : Float) → T (fits binary32 (hardLightB b s))
+unfolding hardLightB
+hard-fits b s = cond-fits binary32 (le s half) (b ⊗ (f2 ⊗ s)) (b ⊕ (f2 ⊗ s ⊖ f1) ⊖ b ⊗ (f2 ⊗ s ⊖ f1)) (mul-fits binary32 b (f2 ⊗ s)) (sub-fits binary32 (b ⊕ (f2 ⊗ s ⊖ f1)) (b ⊗ (f2 ⊗ s ⊖ f1)))
+
+dodge-fits : (b s : Float) → T (fits binary32 (colorDodgeB b s))
+unfolding colorDodgeB
+dodge-fits b s =
+    cond-fits binary32 (eq b f0) f0 (cond (eq s f1) f1 (smallerOf f1 (b ⊘ (f1 ⊖ s)))) zero-fits
+    (cond-fits binary32 (eq s f1) f1 (smallerOf f1 (b ⊘ (f1 ⊖ s))) one-fits (smaller-fits binary32 f1 (b ⊘ (f1 ⊖ s)) one-fits (div-fits binary32 b (f1 ⊖ s))))
+
+burn-fits : (b s : Float) → T (fits binary32 (colorBurnB b s))
+unfolding colorBurnB
+burn-fits b s =
+    cond-fits binary32 (eq b f1) f1 (cond (eq s f0) f0 (f1 ⊖ smallerOf f1 ((f1 ⊖ b) ⊘ s))) one-fits
+    (cond-fits binary32 (eq s f0) f0 (f1 ⊖ smallerOf f1 ((f1 ⊖ b) ⊘ s)) zero-fits (sub-fits binary32 f1 (smallerOf f1 ((f1 ⊖ b) ⊘ s))))
+
+soft-fits : (b s : Float) → T (fits binary32 (softLightB b s))
+unfolding softLightB
+soft-fits b s =
+    cond-fits binary32 (le s half) (b ⊖ (f1 ⊖ f2 ⊗ s) ⊗ b ⊗ (f1 ⊖ b)) (b ⊕ (f2 ⊗ s ⊖ f1) ⊗ (D b ⊖ b)) (sub-fits binary32 b ((f1 ⊖ f2 ⊗ s) ⊗ b ⊗ (f1 ⊖ b)))
+    (add-fits binary32 b ((f2 ⊗ s ⊖ f1) ⊗ (D b ⊖ b)))
+
+pub blend-fits : (m : Mode) (b s : Float) → T (fits binary32 b) → T (fits binary32 s) → T (fits binary32 (B m b s))
+blend-fits multiply b s h k = mul-fits binary32 b s
+blend-fits screen b s h k = sub-fits binary32 (b ⊕ s) (b ⊗ s)
+blend-fits overlay b s h k = hard-fits s b
+blend-fits darken b s h k = smaller-fits binary32 b s h k
+blend-fits lighten b s h k = larger-fits binary32 b s h k
+blend-fits colorDodge b s h k = dodge-fits b s
+blend-fits colorBurn b s h k = burn-fits b s
+blend-fits hardLight b s h k = hard-fits b s
+blend-fits softLight b s h k = soft-fits b s
+blend-fits difference b s h k = abs-fits (b ⊖ s)
+blend-fits exclusion b s h k = sub-fits binary32 (b ⊕ s) (f2 ⊗ b ⊗ s)
+
+-- ---- 0, 1 and 2
+one-under : AtMost 1 f1
+unfolding ofBits
+one-under = lit≤ tt
+
+zero-under : AtMost 1 f0
+unfolding ofBits
+zero-under = lit≤ tt
+
+two-under : AtMost 2 f2
+unfolding ofBits
+two-under = lit≤ tt
+
+-- ---- the smaller of 1 and a quotient that is not negative
+below-one : (x : Float) → lt x f1 ≡ true → lt x f0 ≡ false → AtMost 1 x
+unfolding lt ofBits
+below-one nan h k = absurd (true≢false (sym h))
+below-one (inf true) h k = absurd (true≢false k)
+below-one (inf false) h k = absurd (true≢false (sym h))
+below-one (fin false m e) h k = lower (m * up e) (down e) (ltb-true (m * up e * 1) (1 * 1 * down e) h)
+  where
+    lower : (a c : ℕ) → a * 1 < 1 * 1 * c → a ≤ 1 * c
+    lower a c h = omega arith
+below-one (fin true m e) h k = nothing (m * up e) (0 * 1 * down e) (down e) (ltb-false 0 (m * up e * 1 + 0 * 1 * down e) k)
+  where
+    nothing : (a b c : ℕ) → a * 1 + b ≤ 0 → a ≤ 1 * c
+    nothing a b c h = omega arith
+
+one-number : isNan f1 ≡ false
+unfolding ofBits isNan
+one-number = refl
+
+pub capped : (x : Float) → lt x f0 ≡ false → AtMost 1 (smallerOf f1 x)
+unfolding smallerOf
+capped x h = subst (λ (b : Bool). AtMost 1 (cond b x (cond (lt x f1) x f1))) (sym one-number) (go (lt x f1) refl)
+  where
+    go : (b : Bool) → lt x f1 ≡ b → AtMost 1 (cond b x f1)
+    go true e = below-one x e h
+    go false e = one-under
+
+-- 1 - x has a clear sign
+pub less-plus : (x : Float) → Unsigned (plain x) → AtMost 1 x → Unsigned (f1 ⊖ x)
+unfolding sub add neg sum ofBits
+less-plus nan p u = absurd p
+less-plus (inf s) p u = absurd u
+less-plus (fin false m e) p u = subst Unsigned (sym (one-less m e u)) (round-unsigned binary32 (1 * 1 * down e - m * up e * 1) (1 * down e))
+less-plus (fin true zero e) p u = round-unsigned binary32 (1 * 1 * down e + 0 * up e * 1) (1 * down e)
+less-plus (fin true (suc m) e) p u = absurd p
+
+pub ratio : (x y : Float) → Unsigned x → Unsigned y → lt (x ⊘ y) f0 ≡ false
+unfolding div lt ofBits
+ratio nan y p q = absurd p
+ratio (inf true) y p q = absurd p
+ratio (inf false) nan p q = refl
+ratio (inf false) (inf t) p q = refl
+ratio (inf false) (fin true n d) p q = absurd q
+ratio (inf false) (fin false n d) p q = refl
+ratio (fin true m e) y p q = absurd p
+ratio (fin false m e) nan p q = refl
+ratio (fin false m e) (inf true) p q = absurd q
+ratio (fin false m e) (inf false) p q = refl
+ratio (fin false m e) (fin true n d) p q = absurd q
+ratio (fin false m e) (fin false n d) p q = go (eqb n 0) (eqb m 0)
+  where
+    go : (a b : Bool) → lt (cond a (cond b nan (inf false)) (round binary32 false (m * up e * down d) (n * up d * down e))) (ofBits binary32 0) ≡ false
+    go true true = refl
+    go true false = refl
+    go false b = not-below (round binary32 false (m * up e * down d) (n * up d * down e)) (round-unsigned binary32 (m * up e * down d) (n * up d * down e))
+
+pub ratio-plain : (x y : Float) → Unsigned (plain x) → Unsigned y → lt (x ⊘ y) f0 ≡ false
+ratio-plain x y p q = lt-same (x ⊘ y) (plain x ⊘ y) f0 f0 (div-plain binary32 x y) refl ∙ ratio (plain x) y p q
+
+-- a number that is not a zero has its own sign
+pub nonzero : (x : Float) → Unsigned (plain x) → eq x f0 ≡ false → Unsigned x
+unfolding eq ofBits
+nonzero nan p h = p
+nonzero (inf s) p h = p
+nonzero (fin s (suc m) e) p h = p
+nonzero (fin false zero e) p h = tt
+nonzero (fin true zero e) p h = absurd (true≢false (sym (both (eqb (0 * up e * 1) (0 * 1 * down e)) (eqb (0 * up e * 1) 0) (eq-eqb (0 * up e * 1) (0 * 1 * down e) (a ∙ sym b)) (eq-eqb (0 * up e * 1) 0 a)) ∙ h))
+  where
+    a : 0 * up e * 1 ≡ 0
+    a = mul-one (0 * up e) ∙ zero-mul (up e)
+
+    b : 0 * 1 * down e ≡ 0
+    b = zero-mul (down e)
+
+    both : (u v : Bool) → u ≡ true → v ≡ true → u && (false || v) ≡ true
+    both true true i j = refl
+    both true false i j = absurd (true≢false (sym j))
+    both false v i j = absurd (true≢false (sym i))
+
+-- the smaller of 1 and what is not negative
+cap-in : (x : Float) → T (fits binary32 x) → lt x f0 ≡ false → InUnit (smallerOf f1 x)
+cap-in x h l = in-unit (smallerOf f1 x) (smaller-fits binary32 f1 x one-fits h) (low x l) (capped x l)
+  where
+    low : (x : Float) → lt x f0 ≡ false → lt (smallerOf f1 x) f0 ≡ false
+    low x l = unfold smallerOf in go (isNan f1) (lt x f1)
+      where
+        go : (u v : Bool) → lt (cond u x (cond v x f1)) f0 ≡ false
+        go true v = l
+        go false true = l
+        go false false = one-in .low
+
+dodge-in : (b s : Float) → InUnit b → InUnit s → InUnit (colorDodgeB b s)
+unfolding colorDodgeB
+dodge-in b s p q =
+    let y = b ⊘ (f1 ⊖ s) in
+    cond-in (eq b f0) f0 (cond (eq s f1) f1 (smallerOf f1 y)) zero-in
+    (cond-in (eq s f1) f1 (smallerOf f1 y) one-in (cap-in y (div-fits binary32 b (f1 ⊖ s)) (ratio-plain b (f1 ⊖ s) (unsigned p) (less-plus s (unsigned q) (at-most-one q)))))
+
+burn-in : (b s : Float) → InUnit b → InUnit s → InUnit (colorBurnB b s)
+unfolding colorBurnB
+burn-in b s p q = cond-in (eq b f1) f1 (cond (eq s f0) f0 (f1 ⊖ smallerOf f1 ((f1 ⊖ b) ⊘ s))) one-in (go (eq s f0) refl)
+  where
+    go : (v : Bool) → eq s f0 ≡ v → InUnit (cond v f0 (f1 ⊖ smallerOf f1 ((f1 ⊖ b) ⊘ s)))
+    go true e = zero-in
+    go false e =
+        complement-in (cap-in ((f1 ⊖ b) ⊘ s) (div-fits binary32 (f1 ⊖ b) s) (ratio (f1 ⊖ b) s (less-plus b (unsigned p) (at-most-one p)) (nonzero s (unsigned q) e)))
+
+-- ---- the size of a difference of two numbers from 0 to 1
+apart : (m : ℕ) (e : ℤ) (n : ℕ) (d : ℤ) → m * up e ≤ 1 * down e → n * up d ≤ 1 * down d → AtMost 1 (fin false m e ⊖ fin false n d)
+unfolding sub add neg sum
+apart m e n d h k = go (ltb a b)
+  where
+    a : ℕ
+    a = m * up e * down d
+
+    b : ℕ
+    b = n * up d * down e
+
+    c : ℕ
+    c = down e * down d
+
+    ha : a ≤ 1 * c
+    ha = le-trans (mul-le-mul-right (down d) h) (le-of-eq (mul-assoc 1 (down e) (down d)))
+
+    hb : b ≤ 1 * c
+    hb = le-trans (mul-le-mul-right (down e) k) (le-of-eq (mul-assoc 1 (down d) (down e) ∙ ap (λ (z : ℕ). 1 * z) (mul-comm (down d) (down e))))
+
+    part : (x y z : ℕ) → x ≤ z → x - y ≤ z
+    part x y z h = omega arith
+
+    go : (v : Bool) → AtMost 1 (cond v (round binary32 true (b - a) c) (round binary32 (false && ltb b a) (a - b) c))
+    go true = round-bound binary32 1 (lit≤ tt) true (b - a) c (mul-pos (down-pos e) (down-pos d)) (part b a (1 * c) hb)
+    go false = round-bound binary32 1 (lit≤ tt) (false && ltb b a) (a - b) c (mul-pos (down-pos e) (down-pos d)) (part a b (1 * c) ha)
+
+apart-in : (x y : Float) → Unsigned x → Unsigned y → AtMost 1 x → AtMost 1 y → AtMost 1 (x ⊖ y)
+apart-in nan y p q h k = absurd p
+apart-in (inf s) y p q h k = absurd h
+apart-in (fin true m e) y p q h k = absurd p
+apart-in (fin false m e) nan p q h k = absurd q
+apart-in (fin false m e) (inf t) p q h k = absurd k
+apart-in (fin false m e) (fin true n d) p q h k = absurd q
+apart-in (fin false m e) (fin false n d) p q h k = apart m e n d h k
+
+difference-in : (b s : Float) → InUnit b → InUnit s → InUnit (absOf (b ⊖ s))
+difference-in b s p q =
+    let e : Same (b ⊖ s) (plain b ⊖ plain s) = sub-same binary32 b (plain b) s (plain s) (sym (plain-twice b)) (sym (plain-twice s)) in
+    let h = sub-fits binary32 b s in
+    let u : AtMost 1 (b ⊖ s) = same-bound 1 (b ⊖ s) (plain b ⊖ plain s) e (apart-in (plain b) (plain s) (unsigned p) (unsigned q) (plain-bound 1 b (at-most-one p)) (plain-bound 1 s (at-most-one q))) in
+    in-unit (absOf (b ⊖ s)) (abs-fits (b ⊖ s)) (not-below (absOf (b ⊖ s)) (abs-unsigned 1 (b ⊖ s) h u)) (abs-bound 1 (b ⊖ s) h u)
+
+-- ---- the six
+abbrev pub within : Mode → Bool
+within multiply = true
+within screen = false
+within overlay = false
+within darken = true
+within lighten = true
+within colorDodge = true
+within colorBurn = true
+within hardLight = false
+within softLight = false
+within difference = true
+within exclusion = false
+
+pub blend-in : (m : Mode) → T (within m) → (b s : Float) → InUnit b → InUnit s → InUnit (B m b s)
+blend-in multiply w b s p q = product-in p q
+blend-in screen w b s p q = absurd w
+blend-in overlay w b s p q = absurd w
+blend-in darken w b s p q = unfold smallerOf in cond-in (isNan b) s (cond (lt s b) s b) q (cond-in (lt s b) s b q p)
+blend-in lighten w b s p q = unfold largerOf in cond-in (isNan b) s (cond (lt b s) s b) q (cond-in (lt b s) s b q p)
+blend-in colorDodge w b s p q = dodge-in b s p q
+blend-in colorBurn w b s p q = burn-in b s p q
+blend-in hardLight w b s p q = absurd w
+blend-in softLight w b s p q = absurd w
+blend-in difference w b s p q = difference-in b s p q
+blend-in exclusion w b s p q = absurd w
+
+-- ---- multiply, screen, hard light
+screen-bound : (N : ℕ) → 1 + N + 1 * N ≤ 2 ^ 24 → 1 + N ≤ 2 ^ 24 → 1 * N ≤ 2 ^ 24 → (b x : Float) → AtMost 1 b → AtMost N x → AtMost (1 + N + 1 * N) (b ⊕ x ⊖ b ⊗ x)
+screen-bound N P Q R b x h k = sub-bound binary32 (1 + N) (1 * N) P (b ⊕ x) (b ⊗ x) (add-bound binary32 1 N Q b x h k) (mul-bound binary32 1 N R b x h k)
+
+hard-bound : (b s : Float) → AtMost 1 b → AtMost 1 s → AtMost 7 (hardLightB b s)
+unfolding hardLightB
+hard-bound b s h k =
+    let x : AtMost 2 (f2 ⊗ s) = mul-bound binary32 2 1 (lit≤ tt) f2 s two-under k in
+    cond-bound 7 (le s half) (b ⊗ (f2 ⊗ s)) (b ⊕ (f2 ⊗ s ⊖ f1) ⊖ b ⊗ (f2 ⊗ s ⊖ f1))
+    (at-most-more 2 7 (b ⊗ (f2 ⊗ s)) (lit≤ tt) (mul-bound binary32 1 2 (lit≤ tt) b (f2 ⊗ s) h x))
+    (screen-bound 3 (lit≤ tt) (lit≤ tt) (lit≤ tt) b (f2 ⊗ s ⊖ f1) h (sub-bound binary32 2 1 (lit≤ tt) (f2 ⊗ s) f1 x one-under))
+
+-- ---- soft light
+lits : AtMost 16 (lit 0x4180_0000) × AtMost 12 (lit 0x4140_0000) × AtMost 4 (lit 0x4080_0000)
+unfolding ofBits
+lits = (lit≤ tt, lit≤ tt, lit≤ tt)
+
+curve-bound : (b : Float) → InUnit b → AtMost 32 (D b)
+unfolding D
+curve-bound b p =
+    let h = at-most-one p in
+    let x1 : AtMost 16 (lit 0x4180_0000 ⊗ b) = mul-bound binary32 16 1 (lit≤ tt) (lit 0x4180_0000) b (lits .0) h in
+    let x2 : AtMost 28 (lit 0x4180_0000 ⊗ b ⊖ lit 0x4140_0000) = sub-bound binary32 16 12 (lit≤ tt) (lit 0x4180_0000 ⊗ b) (lit 0x4140_0000) x1 (lits .1) in
+    let x3 : AtMost 28 ((lit 0x4180_0000 ⊗ b ⊖ lit 0x4140_0000) ⊗ b) = mul-bound binary32 28 1 (lit≤ tt) (lit 0x4180_0000 ⊗ b ⊖ lit 0x4140_0000) b x2 h in
+    let x4 : AtMost 32 ((lit 0x4180_0000 ⊗ b ⊖ lit 0x4140_0000) ⊗ b ⊕ lit 0x4080_0000) = add-bound binary32 28 4 (lit≤ tt) ((lit 0x4180_0000 ⊗ b ⊖ lit 0x4140_0000) ⊗ b) (lit 0x4080_0000) x3 (lits .2) in
+    cond-bound 32 (le b (lit 0x3e80_0000)) (((lit 0x4180_0000 ⊗ b ⊖ lit 0x4140_0000) ⊗ b ⊕ lit 0x4080_0000) ⊗ b) (sqrtOf b)
+    (mul-bound binary32 32 1 (lit≤ tt) ((lit 0x4180_0000 ⊗ b ⊖ lit 0x4140_0000) ⊗ b ⊕ lit 0x4080_0000) b x4 h)
+    (at-most-more 2 32 (sqrtOf b) (lit≤ tt) (root-bound b (unsigned p) h))
+
+soft-bound : (b s : Float) → InUnit b → InUnit s → AtMost 100 (softLightB b s)
+unfolding softLightB
+soft-bound b s p q =
+    let h = at-most-one p in
+    let k = at-most-one q in
+    let s2 : AtMost 2 (f2 ⊗ s) = mul-bound binary32 2 1 (lit≤ tt) f2 s two-under k in
+    let a1 : AtMost 3 (f1 ⊖ f2 ⊗ s) = sub-bound binary32 1 2 (lit≤ tt) f1 (f2 ⊗ s) one-under s2 in
+    let a2 : AtMost 3 ((f1 ⊖ f2 ⊗ s) ⊗ b) = mul-bound binary32 3 1 (lit≤ tt) (f1 ⊖ f2 ⊗ s) b a1 h in
+    let a3 : AtMost 2 (f1 ⊖ b) = sub-bound binary32 1 1 (lit≤ tt) f1 b one-under h in
+    let a4 : AtMost 6 ((f1 ⊖ f2 ⊗ s) ⊗ b ⊗ (f1 ⊖ b)) = mul-bound binary32 3 2 (lit≤ tt) ((f1 ⊖ f2 ⊗ s) ⊗ b) (f1 ⊖ b) a2 a3 in
+    let a5 : AtMost 7 (b ⊖ (f1 ⊖ f2 ⊗ s) ⊗ b ⊗ (f1 ⊖ b)) = sub-bound binary32 1 6 (lit≤ tt) b ((f1 ⊖ f2 ⊗ s) ⊗ b ⊗ (f1 ⊖ b)) h a4 in
+    let b1 : AtMost 3 (f2 ⊗ s ⊖ f1) = sub-bound binary32 2 1 (lit≤ tt) (f2 ⊗ s) f1 s2 one-under in
+    let b2 : AtMost 33 (D b ⊖ b) = sub-bound binary32 32 1 (lit≤ tt) (D b) b (curve-bound b p) h in
+    let b3 : AtMost 99 ((f2 ⊗ s ⊖ f1) ⊗ (D b ⊖ b)) = mul-bound binary32 3 33 (lit≤ tt) (f2 ⊗ s ⊖ f1) (D b ⊖ b) b1 b2 in
+    cond-bound 100 (le s half) (b ⊖ (f1 ⊖ f2 ⊗ s) ⊗ b ⊗ (f1 ⊖ b)) (b ⊕ (f2 ⊗ s ⊖ f1) ⊗ (D b ⊖ b))
+    (at-most-more 7 100 (b ⊖ (f1 ⊖ f2 ⊗ s) ⊗ b ⊗ (f1 ⊖ b)) (lit≤ tt) a5) (add-bound binary32 1 99 (lit≤ tt) b ((f2 ⊗ s ⊖ f1) ⊗ (D b ⊖ b)) h b3)
+
+-- ---- every mode
+small : (m : Mode) → T (within m) → (b s : Float) → InUnit b → InUnit s → AtMost 100 (B m b s)
+small m w b s p q = at-most-more 1 100 (B m b s) (lit≤ tt) (at-most-one (blend-in m w b s p q))
+
+pub blend-bound : (m : Mode) (b s : Float) → InUnit b → InUnit s → AtMost 100 (B m b s)
+blend-bound multiply b s p q = small multiply tt b s p q
+blend-bound screen b s p q = at-most-more 3 100 (b ⊕ s ⊖ b ⊗ s) (lit≤ tt) (screen-bound 1 (lit≤ tt) (lit≤ tt) (lit≤ tt) b s (at-most-one p) (at-most-one q))
+blend-bound overlay b s p q = at-most-more 7 100 (hardLightB s b) (lit≤ tt) (hard-bound s b (at-most-one q) (at-most-one p))
+blend-bound darken b s p q = small darken tt b s p q
+blend-bound lighten b s p q = small lighten tt b s p q
+blend-bound colorDodge b s p q = small colorDodge tt b s p q
+blend-bound colorBurn b s p q = small colorBurn tt b s p q
+blend-bound hardLight b s p q = at-most-more 7 100 (hardLightB b s) (lit≤ tt) (hard-bound b s (at-most-one p) (at-most-one q))
+blend-bound softLight b s p q = soft-bound b s p q
+blend-bound difference b s p q = small difference tt b s p q
+blend-bound exclusion b s p q =
+    at-most-more 4 100 (b ⊕ s ⊖ f2 ⊗ b ⊗ s) (lit≤ tt)
+    (sub-bound binary32 2 2 (lit≤ tt) (b ⊕ s) (f2 ⊗ b ⊗ s) (add-bound binary32 1 1 (lit≤ tt) b s (at-most-one p) (at-most-one q)) (mul-bound binary32 2 1 (lit≤ tt) (f2 ⊗ b) s (mul-bound binary32 2 1 (lit≤ tt) f2 b two-under (at-most-one p)) (at-most-one q)))
