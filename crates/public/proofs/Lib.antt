@@ -8,3 +8,5 @@ pub mod InRange
 pub mod FractionEdges
 pub mod BlendEdges
 pub mod BlendRange
+pub mod PorterDuff
+pub mod Compositing

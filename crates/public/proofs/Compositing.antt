@@ -1,0 +1,77 @@
+-- The eleven operators that W3C defines, one theorem each: first a colour, then the alpha, which is the union. s is the source's pixel, d the destination's, and c any of
+-- the three colours; all alphas, NaN and the infinities are included. A hypothesis excludes the inputs of a row of docs/DIFFERENCES.md, and nothing else. Each is an
+-- instance of Stored.antt. Assumes nothing.
+use mathlib.Core.Path.{_≡_}
+use mathlib.Core.Bool.{false, _&&_}
+use lib.Dec.{T}
+use lib.Ieee.{Float, binary32, lt, eq}
+use Rattle.float_steps.specs.Notation.{_⊕_, _⊖_, _⊗_, _⊘_, f0, f1, half}
+use Rattle.float_steps.specs.Order.{unitOf}
+use Rattle.ieee_laws.specs.Same.{Same}
+use Rattle.ieee_laws.specs.Size.{doubles}
+use Rattle.operators.specs.declared.CompositeOp.{CompositeOp}
+use Rattle.operators.specs.declared.CompositeOp.the-variants as O
+use Rattle.pictures.specs.declared.Rgba.{Rgba}
+use Rattle.pixels.specs.declared.Params.{Params}
+use Rattle.pixels.specs.Pixel.{pixelOf}
+use Rattle.public.specs.Compositing.{Mode, multiply, screen, overlay, darken, lighten, colorDodge, colorBurn, hardLight, softLight, difference, exclusion, B}
+use Rattle.public.specs.Operators.{Colour, at, Held}
+use Rattle.public.specs.BlendDifferences.{union, uncovered, spread, coBy, overUnion, infinite}
+use Rattle.public.proofs.Stored.{stored-is, union-alpha}
+
+module _ (p : Params) (s d : Rgba) (hs : Held s) (hd : Held d) (c : Colour) where
+  -- the pixel's colour and alpha
+  abbrev C : CompositeOp → Float
+  C o = at c (pixelOf o p s d)
+
+  abbrev α : CompositeOp → Float
+  α o = pixelOf o p s d .a
+
+  abbrev Cs : Float
+  Cs = at c s
+
+  abbrev Cb : Float
+  Cb = at c d
+
+  -- co of a blended colour, αs multiplied into both of its parts
+  abbrev mixed : Float → Float
+  mixed v = coBy spread v (at c s) (s .a) (at c d) (d .a)
+
+  abbrev αu : Float
+  αu = union (s .a) (d .a)
+
+  -- ---- stored as co is, B and the result clamped
+  pub multiply-is : Same (C O.Multiply) (unitOf (mixed (unitOf (B multiply Cb Cs)))) × (α O.Multiply ≡ αu)
+  multiply-is = (stored-is p s d multiply hs hd c tt, union-alpha p s d multiply)
+
+  pub screen-is : Same (C O.Screen) (unitOf (mixed (unitOf (B screen Cb Cs)))) × (α O.Screen ≡ αu)
+  screen-is = (stored-is p s d screen hs hd c tt, union-alpha p s d screen)
+
+  pub lighten-is : Same (C O.Lighten) (unitOf (mixed (unitOf (B lighten Cb Cs)))) × (α O.Lighten ≡ αu)
+  lighten-is = (stored-is p s d lighten hs hd c tt, union-alpha p s d lighten)
+
+  pub difference-is : Same (C O.Difference) (unitOf (mixed (unitOf (B difference Cb Cs)))) × (α O.Difference ≡ αu)
+  difference-is = (stored-is p s d difference hs hd c tt, union-alpha p s d difference)
+
+  -- ---- stored as co over the union alpha, the result clamped
+  pub overlay-is : (eq Cb half && infinite Cs ≡ false → Same (C O.Overlay) (unitOf (overUnion (mixed (B overlay Cb Cs)) αu))) × (α O.Overlay ≡ αu)
+  overlay-is = (stored-is p s d overlay hs hd c, union-alpha p s d overlay)
+
+  pub hard-light-is : (eq Cs half && infinite Cb ≡ false → Same (C O.HardLight) (unitOf (overUnion (mixed (B hardLight Cb Cs)) αu))) × (α O.HardLight ≡ αu)
+  hard-light-is = (stored-is p s d hardLight hs hd c, union-alpha p s d hardLight)
+
+  pub soft-light-is : Same (C O.SoftLight) (unitOf (overUnion (mixed (B softLight Cb Cs)) αu)) × (α O.SoftLight ≡ αu)
+  soft-light-is = (stored-is p s d softLight hs hd c tt, union-alpha p s d softLight)
+
+  pub color-dodge-is : ((lt Cb f0 ≡ false) × (lt f1 Cs ≡ false) → Same (C O.ColorDodge) (unitOf (overUnion (mixed (B colorDodge Cb Cs)) αu))) × (α O.ColorDodge ≡ αu)
+  color-dodge-is = (stored-is p s d colorDodge hs hd c, union-alpha p s d colorDodge)
+
+  pub color-burn-is : ((lt Cs f0 ≡ false) × (lt f1 Cb ≡ false) × (eq Cs f0 && eq Cb f1 ≡ false) → Same (C O.ColorBurn) (unitOf (overUnion (mixed (B colorBurn Cb Cs)) αu))) × (α O.ColorBurn ≡ αu)
+  color-burn-is = (stored-is p s d colorBurn hs hd c, union-alpha p s d colorBurn)
+
+  -- ---- B of the premultiplied colours
+  pub darken-is : Same (C O.Darken) (unitOf (unitOf (B darken (Cb ⊗ d .a) (Cs ⊗ s .a)) ⊕ uncovered Cs (s .a) Cb (d .a))) × (α O.Darken ≡ αu)
+  darken-is = (stored-is p s d darken hs hd c tt, union-alpha p s d darken)
+
+  pub exclusion-is : (T (doubles binary32 (Cs ⊗ s .a)) × T (doubles binary32 (Cb ⊗ d .a)) → Same (C O.Exclusion) (unitOf (unitOf (B exclusion (Cb ⊗ d .a) (Cs ⊗ s .a))))) × (α O.Exclusion ≡ αu)
+  exclusion-is = (stored-is p s d exclusion hs hd c, union-alpha p s d exclusion)

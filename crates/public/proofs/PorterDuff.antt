@@ -1,0 +1,93 @@
+-- The thirteen operators that Porter and Duff define, one theorem each: first a colour, then the alpha. s is the source's pixel, d the destination's, and c any of the
+-- three colours. A hypothesis excludes the inputs of a row of docs/DIFFERENCES.md, and nothing else. Each is an instance of Fractions.antt. Assumes nothing.
+use mathlib.Core.Path.{_≡_, refl}
+use mathlib.Core.Bool.{false}
+use lib.Dec.{T}
+use lib.Ieee.{Float, lt, le}
+use lib.Ieee.Scale.{finite}
+use Rattle.float_steps.specs.Notation.{_⊕_, _⊖_, _⊗_, _⊘_, f0, f1}
+use Rattle.float_steps.specs.Order.{smallerOf}
+use Rattle.ieee_laws.specs.Same.{Same}
+use Rattle.operators.specs.declared.CompositeOp.{CompositeOp}
+use Rattle.operators.specs.declared.CompositeOp.the-variants as O
+use Rattle.pictures.specs.declared.Rgba.{Rgba}
+use Rattle.pixels.specs.declared.Params.{Params}
+use Rattle.pixels.specs.Pixel.{pixelOf}
+use Rattle.public.specs.PorterDuff.{Operator, clear, A, B, AoverB, BoverA, AinB, BinA, AoutB, BoutA, AatopB, BatopA, AxorB, AplusB, colour, coverage}
+use Rattle.public.specs.Operators.{Colour, at, Held}
+use Rattle.public.specs.FractionDifferences.{coverageFirst, part, Clears}
+use Rattle.public.proofs.Fractions.{colour-is, alpha-is}
+
+module _ (p : Params) (s d : Rgba) (hs : Held s) (hd : Held d) (c : Colour) where
+  -- the pixel's colour and alpha
+  abbrev C : CompositeOp → Float
+  C o = at c (pixelOf o p s d)
+
+  abbrev α : CompositeOp → Float
+  α o = pixelOf o p s d .a
+
+  abbrev S : Float
+  S = at c s
+
+  abbrev sa : Float
+  sa = s .a
+
+  abbrev D : Float
+  D = at c d
+
+  abbrev da : Float
+  da = d .a
+
+  -- the paper's colour and coverage
+  abbrev P : Operator → Float
+  P o = colour o (at c s) (s .a) (at c d) (d .a)
+
+  abbrev Q : Operator → Float
+  Q o = coverage o (s .a) (d .a)
+
+  -- ---- stored as in the paper
+  pub clear-is : (T (finite (S ⊗ sa)) × T (finite (D ⊗ da)) → Same (C O.Clear) (P clear)) × (T (finite sa) × T (finite da) → Same (α O.Clear) (Q clear))
+  clear-is = (colour-is p s d hs hd c clear, alpha-is p s d hs hd clear)
+
+  -- with the source's coverage multiplied by the fraction first
+  pub in-is : (T (finite (D ⊗ da)) → Same (C O.In) (part coverageFirst S sa da ⊕ D ⊗ da ⊗ f0)) × (T (finite da) → Same (α O.In) (Q AinB))
+  in-is = (colour-is p s d hs hd c AinB, alpha-is p s d hs hd AinB)
+
+  pub out-is : (T (finite (D ⊗ da)) → Same (C O.Out) (part coverageFirst S sa (f1 ⊖ da) ⊕ D ⊗ da ⊗ f0)) × (T (finite da) → Same (α O.Out) (Q AoutB))
+  out-is = (colour-is p s d hs hd c AoutB, alpha-is p s d hs hd AoutB)
+
+  -- with the destination's alpha kept
+  pub atop-is : Same (C O.Atop) (P AatopB) × (α O.Atop ≡ da)
+  atop-is = (colour-is p s d hs hd c AatopB tt, refl)
+
+  -- with the source's alpha kept
+  pub dst-atop-is : Same (C O.DstAtop) (P BatopA) × (α O.DstAtop ≡ sa)
+  dst-atop-is = (colour-is p s d hs hd c BatopA tt, refl)
+
+  pub xor-is : Same (C O.Xor) (P AxorB) × Same (α O.Xor) (Q AxorB)
+  xor-is = (colour-is p s d hs hd c AxorB tt, alpha-is p s d hs hd AxorB tt)
+
+  -- cut at 1
+  pub plus-is : (C O.Plus ≡ smallerOf (P AplusB) f1) × (α O.Plus ≡ smallerOf (Q AplusB) f1)
+  plus-is = (colour-is p s d hs hd c AplusB tt, alpha-is p s d hs hd AplusB tt)
+
+  -- ---- stored straight: colour times alpha is the paper's
+  pub src-is : (T (finite (D ⊗ da)) → Same (C O.Src ⊗ α O.Src) (P A)) × (T (finite da) → Same (α O.Src) (Q A))
+  src-is = (colour-is p s d hs hd c A, alpha-is p s d hs hd A)
+
+  pub dst-is : (T (finite (S ⊗ sa)) → Same (C O.Dst ⊗ α O.Dst) (P B)) × (T (finite sa) → Same (α O.Dst) (Q B))
+  dst-is = (colour-is p s d hs hd c B, alpha-is p s d hs hd B)
+
+  -- with the destination's coverage multiplied by the fraction first
+  pub dst-in-is : (T (finite (S ⊗ sa)) × Clears (sa ⊗ da) D → Same (C O.DstIn ⊗ α O.DstIn) (S ⊗ sa ⊗ f0 ⊕ part coverageFirst D da sa)) × (T (finite sa) × (lt (sa ⊗ da) f0 ≡ false) → Same (α O.DstIn) (Q BinA))
+  dst-in-is = (colour-is p s d hs hd c BinA, alpha-is p s d hs hd BinA)
+
+  pub dst-out-is : (T (finite (S ⊗ sa)) × Clears (da ⊗ (f1 ⊖ sa)) D → Same (C O.DstOut ⊗ α O.DstOut) (S ⊗ sa ⊗ f0 ⊕ part coverageFirst D da (f1 ⊖ sa))) × (T (finite sa) × (lt (da ⊗ (f1 ⊖ sa)) f0 ≡ false) → Same (α O.DstOut) (Q BoutA))
+  dst-out-is = (colour-is p s d hs hd c BoutA, alpha-is p s d hs hd BoutA)
+
+  -- ---- stored divided by the coverage
+  pub over-is : (le (Q AoverB) f0 ≡ false → C O.Over ≡ P AoverB ⊘ Q AoverB) × (lt (Q AoverB) f0 ≡ false → Same (α O.Over) (Q AoverB))
+  over-is = (colour-is p s d hs hd c AoverB, alpha-is p s d hs hd AoverB)
+
+  pub dst-over-is : (le (Q BoverA) f0 ≡ false → C O.DstOver ≡ P BoverA ⊘ Q BoverA) × (lt (Q BoverA) f0 ≡ false → Same (α O.DstOver) (Q BoverA))
+  dst-over-is = (colour-is p s d hs hd c BoverA, alpha-is p s d hs hd BoverA)
