@@ -17,7 +17,9 @@ use Rattle.ieee_laws.proofs.Zero.{plain-twice, mul-same, sub-same}
 use Rattle.ieee_laws.proofs.Order.{lt-same}
 use Rattle.ieee_laws.proofs.Bound.{at-most-finite, mul-bound, plain-bound, same-bound, mul-unsigned, round-bound, round-unsigned}
 use Rattle.ieee_laws.proofs.Clamp.{zero-fits, one-fits}
-use Rattle.public.specs.Range.{InUnit}
+use Rattle.pictures.specs.declared.Rgba.{Rgba}
+use Rattle.public.specs.Operators.{Colour, red, green, blue, at, Held}
+use Rattle.public.specs.Range.{InUnit, InUnits}
 
 -- ---- sizes and signs
 single : (a c : ℕ) → a * 1 ≤ 1 * 1 * c → a ≤ 1 * c
@@ -132,3 +134,12 @@ pub complement-in : {x : Float} → InUnit x → InUnit (f1 ⊖ x)
 complement-in {x} p =
     let q = less-in (plain x) (unsigned p) (plain-bound 1 x (at-most-one p)) in
     in-unit-same (f1 ⊖ x) (f1 ⊖ plain x) (sub-fits binary32 f1 x) (sub-same binary32 f1 f1 x (plain x) refl (sym (plain-twice x))) (q .0) (q .1)
+
+-- ---- pixels
+pub unit-at : (c : Colour) (p : Rgba) → InUnits p → InUnit (at c p)
+unit-at red p h = h .r
+unit-at green p h = h .g
+unit-at blue p h = h .b
+
+pub held-of : (p : Rgba) → InUnits p → Held p
+held-of p h = record { r = h .r .held; g = h .g .held; b = h .b .held; a = h .a .held }

@@ -10,3 +10,5 @@ pub mod BlendEdges
 pub mod BlendRange
 pub mod PorterDuff
 pub mod Compositing
+pub mod AtEdges
+pub mod Opaque

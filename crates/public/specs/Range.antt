@@ -4,6 +4,7 @@ use mathlib.Core.Bool.{Bool, false, _||_}
 use lib.Dec.{T}
 use lib.Ieee.{Float, binary32, fits, lt, eq, isNan}
 use Rattle.float_steps.specs.Notation.{f0, f1}
+use Rattle.pictures.specs.declared.Rgba.{Rgba}
 
 -- a number of binary32 from 0 to 1, either zero included
 pub record InUnit (x : Float) : Type 0 where
@@ -11,6 +12,12 @@ pub record InUnit (x : Float) : Type 0 where
   pub number : isNan x ≡ false
   pub low : lt x f0 ≡ false
   pub high : lt f1 x ≡ false
+
+pub record InUnits (p : Rgba) : Type 0 where
+  pub r : InUnit (p .r)
+  pub g : InUnit (p .g)
+  pub b : InUnit (p .b)
+  pub a : InUnit (p .a)
 
 -- one of two alphas is 1, or 0
 abbrev pub opaque : Float → Float → Bool

@@ -1,0 +1,91 @@
+-- Two opaque pixels of numbers from 0 to 1: every mode is W3C's printed formula, clamped, and Multiply, Darken, Lighten, ColorDodge, ColorBurn and Difference are it with no
+-- clamp to be seen. Alpha is W3C's. Assumes nothing.
+use mathlib.Core.Path.{_≡_, refl, sym, ap, _∙_, subst}
+use mathlib.Core.Bool.{Bool, true, false, cond}
+use lib.Dec.{T}
+use lib.Ieee.{Float, binary32, ofBits, add, sub, mul, fits, lt}
+use lib.Ieee.Fits.{mul-fits, add-fits}
+use lib.Ieee.Scale.{finite}
+use Rattle.float_steps.specs.Notation.{_⊕_, _⊖_, _⊗_, _⊘_, f0, f1}
+use Rattle.float_steps.specs.Order.{unitOf}
+use Rattle.ieee_laws.specs.Same.{plain, Same, Zero}
+use Rattle.ieee_laws.proofs.Zero.{plus-zero, zero-plus}
+use Rattle.ieee_laws.proofs.Clamp.{unit-same, unit-fits, unit-twice, unit-kept, one-fits}
+use Rattle.operators.specs.declared.Convention.{Convention}
+use Rattle.operators.specs.declared.Convention.the-variants.{Premult, Divided, OnPremult, PremultOnly}
+use Rattle.operators.specs.Conventions.{convention}
+use Rattle.pictures.specs.declared.Rgba.{Rgba}
+use Rattle.pixels.specs.declared.Params.{Params}
+use Rattle.pixels.specs.Pixel.{pixelOf}
+use Rattle.public.specs.Compositing.{Mode, B, co, αo}
+use Rattle.public.specs.Operators.{Colour, at, blendOp}
+use Rattle.public.specs.BlendDifferences.{union, uncovered, spread, coBy, overUnion, storedBy, StoredOutside}
+use Rattle.public.specs.Range.{InUnit, InUnits}
+use Rattle.public.proofs.Constants.{by-one, one-by, divided-by-one, nought}
+use Rattle.public.proofs.InRange.{finite-of, one-in, unit-at, held-of}
+use Rattle.public.proofs.BlendRange.{blend-fits, within, blend-in}
+use Rattle.public.proofs.BlendEdges.{second, source-one, union-both-one}
+use Rattle.public.proofs.Stored.{stored-is, union-alpha}
+
+union-one : union f1 f1 ≡ f1
+unfolding ofBits add sub mul
+union-one = refl
+
+above : lt f0 f1 ≡ true
+unfolding ofBits lt
+above = refl
+
+undivided : (x : Float) → T (fits binary32 x) → overUnion x (union f1 f1) ≡ x
+undivided x h = (λ i. cond (lt f0 (union-one i)) (x ⊘ union-one i) f0) ∙ ap (λ (b : Bool). cond b (x ⊘ f1) f0) above ∙ divided-by-one x h
+
+module _ (s d : Float) (ps : InUnit s) (pd : InUnit d) where
+  abbrev t : Float
+  t = uncovered s f1 d f1
+
+  all-covered : Zero t
+  all-covered =
+      let one = finite-of one-in in
+      let x = f1 ⊗ (f1 ⊖ f1) ⊗ s in
+      let y = f1 ⊗ (f1 ⊖ f1) ⊗ d in
+      zero-plus binary32 x y (mul-fits binary32 (f1 ⊗ (f1 ⊖ f1)) d) (second f1 (f1 ⊖ f1) s one nought (finite-of ps)) ∙ second f1 (f1 ⊖ f1) d one nought (finite-of pd)
+
+  just : (v : Float) → T (fits binary32 v) → Same (coBy spread v s f1 d f1) v
+  just v h = ap (λ (x : Float). plain (x ⊗ v ⊕ t)) (one-by f1 one-fits) ∙ ap (λ (x : Float). plain (x ⊕ t)) (one-by v h) ∙ plus-zero binary32 v t h all-covered
+
+  -- W3C's own formula gives B
+  co-is : (m : Mode) → Same (co m s f1 d f1) (B m d s)
+  co-is m = let v = B m d s in sym (source-one v s d f1 one-fits (finite-of one-in) (finite-of pd)) ∙ just v (blend-fits m d s (pd .held) (ps .held))
+
+  -- and each convention stores the clamped B
+  stored : (k : Convention) (m : Mode) → Same (storedBy spread k m s f1 d f1) (unitOf (B m d s))
+  stored Premult m =
+      let v = unitOf (B m d s) in
+      unit-same (coBy spread v s f1 d f1) v (just v (unit-fits (B m d s) (blend-fits m d s (pd .held) (ps .held)))) ∙ ap plain (unit-twice (B m d s))
+  stored Divided m =
+      let v = B m d s in
+      let x = coBy spread v s f1 d f1 in
+      ap (λ (z : Float). plain (unitOf z)) (undivided x (add-fits binary32 (f1 ⊗ f1 ⊗ v) t)) ∙ unit-same x v (just v (blend-fits m d s (pd .held) (ps .held)))
+  stored OnPremult m =
+      let v = unitOf (B m d s) in
+      (λ i. plain (unitOf (unitOf (B m (by-one d (pd .held) i) (by-one s (ps .held) i)) ⊕ t)))
+      ∙ unit-same (v ⊕ t) v (plus-zero binary32 v t (unit-fits (B m d s) (blend-fits m d s (pd .held) (ps .held))) all-covered)
+      ∙ ap plain (unit-twice (B m d s))
+  stored PremultOnly m = (λ i. plain (unitOf (unitOf (B m (by-one d (pd .held) i) (by-one s (ps .held) i))))) ∙ ap plain (unit-twice (B m d s))
+
+module _ (p : Params) (s d : Rgba) (ps : InUnits s) (pd : InUnits d) (es : s .a ≡ f1) (ed : d .a ≡ f1) (c : Colour) (m : Mode) where
+  blend : StoredOutside m (at c s) (s .a) (at c d) (d .a) → Same (at c (pixelOf (blendOp m) p s d)) (unitOf (B m (at c d) (at c s)))
+  blend x =
+      stored-is p s d m (held-of s ps) (held-of d pd) c x
+      ∙ (λ i. plain (storedBy spread (convention (blendOp m)) m (at c s) (es i) (at c d) (ed i)))
+      ∙ stored (at c s) (at c d) (unit-at c s ps) (unit-at c d pd) (convention (blendOp m)) m
+
+  pub opaque-is : StoredOutside m (at c s) (s .a) (at c d) (d .a) → Same (at c (pixelOf (blendOp m) p s d)) (unitOf (co m (at c s) f1 (at c d) f1))
+  opaque-is x = blend x ∙ sym (unit-same (co m (at c s) f1 (at c d) f1) (B m (at c d) (at c s)) (co-is (at c s) (at c d) (unit-at c s ps) (unit-at c d pd) m))
+
+  pub opaque-exact : T (within m) → StoredOutside m (at c s) (s .a) (at c d) (d .a) → Same (at c (pixelOf (blendOp m) p s d)) (co m (at c s) f1 (at c d) f1)
+  opaque-exact w x =
+      let q = blend-in m w (at c d) (at c s) (unit-at c d pd) (unit-at c s ps) in
+      blend x ∙ ap plain (unit-kept (B m (at c d) (at c s)) (q .low) (q .high)) ∙ sym (co-is (at c s) (at c d) (unit-at c s ps) (unit-at c d pd) m)
+
+  pub opaque-alpha : pixelOf (blendOp m) p s d .a ≡ αo f1 f1
+  opaque-alpha = union-alpha p s d m ∙ (λ i. union (es i) (ed i)) ∙ union-both-one
