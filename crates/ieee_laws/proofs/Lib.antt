@@ -10,3 +10,4 @@ pub mod Half
 pub mod Clamp
 pub mod Abs
 pub mod Root
+pub mod Units

@@ -15,7 +15,7 @@ use Rattle.ieee_laws.proofs.Number.{held, round-scaled}
 use Rattle.ieee_laws.proofs.Commute.{mul-commutes}
 
 -- ---- a product by the fractions that its factors equal
-values : (f : Format) (x y : Float) (s : Bool) (a c : ℕ) (t : Bool) (b d : ℕ) → 0 < c → 0 < d → HasValue x s a c → HasValue y t b d → mul f x y ≡ round f (unlike s t) (a * b) (c * d)
+pub values : (f : Format) (x y : Float) (s : Bool) (a c : ℕ) (t : Bool) (b d : ℕ) → 0 < c → 0 < d → HasValue x s a c → HasValue y t b d → mul f x y ≡ round f (unlike s t) (a * b) (c * d)
 unfolding mul
 values f nan y s a c t b d C D v w = absurd v
 values f (inf u) y s a c t b d C D v w = absurd v

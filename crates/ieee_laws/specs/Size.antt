@@ -3,7 +3,8 @@ use mathlib.Core.Bool.{Bool, true, false, not}
 use Prim.Native.Nat.{ℕ, suc, _+_, _*_, _^_, _≤_}
 use lib.IntN.{pos}
 use lib.Dec.{T, ltb}
-use lib.Ieee.{Float, nan, inf, fin, Format, emax, up, down}
+use lib.Ieee.{Float, nan, inf, fin, Format, emax, low, up, down}
+use lib.Ieee.Exact.{HasValue}
 
 abbrev pub one : Float
 one = fin false 1 (pos 0)
@@ -32,3 +33,7 @@ doubles f (fin s m e) = ltb (m * up e * 2) (2 ^ suc (emax f) * down e)
 -- x and y are apart by at most half of u
 abbrev pub Near : ℕ → ℕ → ℕ → Type 0
 Near x y u = (x * 2 ≤ y * 2 + u) × (y * 2 ≤ x * 2 + u)
+
+-- a number with a clear sign, n of the format's smallest values
+abbrev pub Counts : Format → Float → ℕ → Type 0
+Counts f x n = HasValue x false n (2 ^ low f)
