@@ -12,3 +12,5 @@ pub mod PorterDuff
 pub mod Compositing
 pub mod AtEdges
 pub mod Opaque
+mod Mixture
+pub mod Unclamped
