@@ -1,4 +1,4 @@
--- W3C's B of two numbers from 0 to 1: it is an f32, six of the eleven stay within 0 to 1 as rounded, and all are finite. Assumes nothing.
+-- W3C's B of two numbers from 0 to 1: it is an f32, seven of the eleven stay within 0 to 1 as rounded, and all are finite. Assumes nothing.
 use mathlib.Core.Path.{_≡_, refl, sym, ap, _∙_, subst}
 use mathlib.Core.Bool.{Bool, true, false, cond, _||_, _&&_, true≢false}
 use Prim.Native.Nat.{ℕ, zero, suc, _+_, _-_, _*_, _^_, _≤_, _<_}
@@ -24,6 +24,7 @@ use Rattle.ieee_laws.proofs.Root.{root-bound}
 use Rattle.public.specs.Compositing.{Mode, multiply, screen, overlay, darken, lighten, colorDodge, colorBurn, hardLight, softLight, difference, exclusion, B, hardLightB, softLightB, D, colorDodgeB, colorBurnB}
 use Rattle.public.specs.Range.{InUnit}
 use Rattle.public.proofs.InRange.{at-most-one, unsigned, not-below, in-unit, zero-in, one-in, cond-in, product-in, one-less, complement-in}
+use Rattle.public.proofs.Screen.{screen-in}
 
 -- ---- B is an f32
 hard-fits : (b s : Float) → T (fits binary32 (hardLightB b s))
@@ -224,10 +225,10 @@ difference-in b s p q =
     let u : AtMost 1 (b ⊖ s) = same-bound 1 (b ⊖ s) (plain b ⊖ plain s) e (apart-in (plain b) (plain s) (unsigned p) (unsigned q) (plain-bound 1 b (at-most-one p)) (plain-bound 1 s (at-most-one q))) in
     in-unit (absOf (b ⊖ s)) (abs-fits (b ⊖ s)) (not-below (absOf (b ⊖ s)) (abs-unsigned 1 (b ⊖ s) h u)) (abs-bound 1 (b ⊖ s) h u)
 
--- ---- the six
+-- ---- the seven
 abbrev pub within : Mode → Bool
 within multiply = true
-within screen = false
+within screen = true
 within overlay = false
 within darken = true
 within lighten = true
@@ -240,7 +241,7 @@ within exclusion = false
 
 pub blend-in : (m : Mode) → T (within m) → (b s : Float) → InUnit b → InUnit s → InUnit (B m b s)
 blend-in multiply w b s p q = product-in p q
-blend-in screen w b s p q = absurd w
+blend-in screen w b s p q = screen-in p q
 blend-in overlay w b s p q = absurd w
 blend-in darken w b s p q = unfold smallerOf in cond-in (isNan b) s (cond (lt s b) s b) q (cond-in (lt s b) s b q p)
 blend-in lighten w b s p q = unfold largerOf in cond-in (isNan b) s (cond (lt b s) s b) q (cond-in (lt b s) s b q p)
@@ -303,7 +304,7 @@ small m w b s p q = at-most-more 1 100 (B m b s) (lit≤ tt) (at-most-one (blend
 
 pub blend-bound : (m : Mode) (b s : Float) → InUnit b → InUnit s → AtMost 100 (B m b s)
 blend-bound multiply b s p q = small multiply tt b s p q
-blend-bound screen b s p q = at-most-more 3 100 (b ⊕ s ⊖ b ⊗ s) (lit≤ tt) (screen-bound 1 (lit≤ tt) (lit≤ tt) (lit≤ tt) b s (at-most-one p) (at-most-one q))
+blend-bound screen b s p q = small screen tt b s p q
 blend-bound overlay b s p q = at-most-more 7 100 (hardLightB s b) (lit≤ tt) (hard-bound s b (at-most-one q) (at-most-one p))
 blend-bound darken b s p q = small darken tt b s p q
 blend-bound lighten b s p q = small lighten tt b s p q

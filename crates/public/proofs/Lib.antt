@@ -14,3 +14,5 @@ pub mod AtEdges
 pub mod Opaque
 mod Mixture
 pub mod Unclamped
+pub mod Screen
+pub mod NoClamp

@@ -28,23 +28,23 @@ use Rattle.public.specs.Range.{InUnit}
 use Rattle.public.proofs.InRange.{at-most-one, finite-of, unsigned, in-unit, in-unit-same}
 use Rattle.public.proofs.Mixture.{Fine, Product, Complement, Sum, mixture}
 
-abbrev E : ℕ
+abbrev pub E : ℕ
 E = 2 ^ 123
 
-abbrev U : ℕ
+abbrev pub U : ℕ
 U = 2 ^ 125
 
-abbrev H : ℕ
+abbrev pub H : ℕ
 H = 2 ^ 148
 
-abbrev M : ℕ
+abbrev pub M : ℕ
 M = 2 ^ 149
 
 -- ---- a rounded fraction from 0 to 2
-abbrev R : ℕ → ℕ → Float
+abbrev pub R : ℕ → ℕ → Float
 R a c = round binary32 false a c
 
-bounded : (a c : ℕ) → 0 < c → a ≤ 2 * c → T (finite (R a c))
+pub bounded : (a c : ℕ) → 0 < c → a ≤ 2 * c → T (finite (R a c))
 bounded a c C h = at-most-finite 2 (R a c) (round-bound binary32 2 (lit≤ tt) false a c C h)
 
 counted-round : (a c : ℕ) → 0 < c → a ≤ 2 * c → Counted binary32 (R a c)
@@ -61,13 +61,13 @@ fine-round : (a c : ℕ) → 0 < c → a ≤ 2 * c → Fine E U H M (grid binary
 fine-round a c C h = subst (Fine E U H M) (count-is a c C h) (fine-count (R a c) (counted-round a c C h))
 
 -- ---- products: a b / M
-fraction : (a b : ℕ) → a ≤ M → b ≤ M → a * b ≤ 2 * (M * M)
+pub fraction : (a b : ℕ) → a ≤ M → b ≤ M → a * b ≤ 2 * (M * M)
 fraction a b h k = le-trans (mul-le-mul h k) (two (M * M))
   where
     two : (z : ℕ) → z ≤ 2 * z
     two z = omega arith
 
-MM : 0 < M * M
+pub MM : 0 < M * M
 MM = mul-pos (pow-pos 149) (pow-pos 149)
 
 -- a b / M below 2 ^ (24 + j) moves by half of 2 ^ j at most
@@ -117,10 +117,10 @@ product x y a b hx hy cx cy la lb =
     go false h k = double (grid binary32 (a * b) (M * M) * M) (a * b) (E * M * 4) (le-trans (mul-le-mul-right M (le-trans most-l la)) (k refl))
 
 -- ---- fractions over M
-MMM : 0 < M
+pub MMM : 0 < M
 MMM = pow-pos 149
 
-near-whole : (a j : ℕ) → a < 2 ^ (24 + j) → grid binary32 a M * 2 ≤ a * 2 + 2 ^ j
+pub near-whole : (a j : ℕ) → a < 2 ^ (24 + j) → grid binary32 a M * 2 ≤ a * 2 + 2 ^ j
 near-whole a j h = le-of-mul-le-mul-right (le-trans (le-of-eq (mul-right-comm (grid binary32 a M) 2 M)) (le-trans (n .0) (le-of-eq right))) MMM
   where
     n : Near (grid binary32 a M * M) (a * M) (M * 2 ^ j)
@@ -130,7 +130,7 @@ near-whole a j h = le-of-mul-le-mul-right (le-trans (le-of-eq (mul-right-comm (g
     right = (λ i. mul-right-comm a M 2 i + mul-comm M (2 ^ j) i) ∙ sym (add-mul (a * 2) (2 ^ j) M)
 
 -- the count of 1, and of a half
-one-counts : Counts binary32 f1 M
+pub one-counts : Counts binary32 f1 M
 unfolding ofBits
 one-counts = (refl, refl)
 
@@ -209,7 +209,7 @@ complement a la fa =
         split = ap (λ (z : ℕ). M - z) e ∙ sym (mul-comm (16777216 - k) U ∙ native.Mathlib.Nat.mul-sub U 16777216 k ∙ (λ i. mul-comm U 16777216 i - mul-comm U k i))
 
 -- ---- a + b
-total : (a b : ℕ) → a ≤ M → b ≤ M → a + b ≤ 2 * M
+pub total : (a b : ℕ) → a ≤ M → b ≤ M → a + b ≤ 2 * M
 total a b h k = both M a b h k
   where
     both : (m a b : ℕ) → a ≤ m → b ≤ m → a + b ≤ 2 * m
@@ -244,24 +244,24 @@ sum a b la lb =
         slack n e h = omega arith
 
 -- ---- a number from 0 to 1 with a clear sign, by its count
-record Part (x : Float) (n : ℕ) : Type 0 where
+pub record Part (x : Float) (n : ℕ) : Type 0 where
   pub held : T (fits binary32 x)
   pub is : Counts binary32 x n
   pub most : n ≤ M
   pub fine : Fine E U H M n
 
-part : {x : Float} → InUnit x → Unsigned x → (n : ℕ) × Part x n
+pub part : {x : Float} → InUnit x → Unsigned x → (n : ℕ) × Part x n
 part {x} p u =
     let c = counted binary32 x u (finite-of p) (p .held) in
     (c .n, record { held = p .held; is = c .is; most = le-trans (count-at-most binary32 1 x (c .n) (at-most-one p) (c .is)) (le-of-eq (one-mul M)); fine = fine-count x c })
 
-abbrev g : ℕ → ℕ → ℕ
+abbrev pub g : ℕ → ℕ → ℕ
 g a b = grid binary32 (a * b) (M * M)
 
-product-of : {x y : Float} {a b : ℕ} → Part x a → Part y b → Product E U H M a b (g a b)
+pub product-of : {x y : Float} {a b : ℕ} → Part x a → Part y b → Product E U H M a b (g a b)
 product-of {x} {y} {a} {b} p q = product x y a b (p .held) (q .held) (p .is) (q .is) (p .most) (q .most)
 
-times : {x y : Float} {a b : ℕ} → Part x a → Part y b → Part (x ⊗ y) (g a b)
+pub times : {x y : Float} {a b : ℕ} → Part x a → Part y b → Part (x ⊗ y) (g a b)
 times {x} {y} {a} {b} p q =
     let r = product-of p q in
     record {
@@ -285,7 +285,7 @@ less {x} {a} p =
     twice m = omega arith
 
 -- ---- the mixture
-to-one : R (M + 4 * E) M ≡ f1
+pub to-one : R (M + 4 * E) M ≡ f1
 unfolding round ofBits
 to-one = refl
 

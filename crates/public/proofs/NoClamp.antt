@@ -1,0 +1,65 @@
+-- Multiply, Screen, Lighten and Difference on numbers from 0 to 1: the stored colour is W3C's formula with its mixing step alone, the clamps having nothing to do; and where an
+-- alpha is 0 or 1 it is W3C's co as printed. Assumes nothing.
+use mathlib.Core.Path.{_≡_, refl, sym, ap, _∙_}
+use mathlib.Core.Bool.{Bool, true, false, _||_}
+use lib.Dec.{T}
+use lib.Ieee.{Float}
+use Rattle.float_steps.specs.Order.{unitOf}
+use Rattle.ieee_laws.specs.Same.{plain, Same}
+use Rattle.ieee_laws.proofs.Clamp.{unit-kept}
+use Rattle.pictures.specs.declared.Rgba.{Rgba}
+use Rattle.pixels.specs.declared.Params.{Params}
+use Rattle.pixels.specs.Pixel.{pixelOf}
+use Rattle.public.specs.Compositing.{Mode, multiply, screen, overlay, darken, lighten, colorDodge, colorBurn, hardLight, softLight, difference, exclusion, B, co}
+use Rattle.public.specs.Operators.{Colour, at, blendOp}
+use Rattle.public.specs.BlendDifferences.{spread, coBy}
+use Rattle.public.specs.Range.{InUnit, InUnits, opaque, absent}
+use Rattle.public.proofs.InRange.{unit-at, held-of}
+use Rattle.public.proofs.BlendRange.{blend-fits, blend-bound, blend-in}
+use Rattle.public.proofs.Unclamped.{mixed-in}
+use Rattle.public.proofs.AtEdges.{mixed-at-edge}
+use Rattle.public.proofs.Stored.{stored-is}
+
+-- the modes that store co as it is
+abbrev pub mixes : Mode → Bool
+mixes multiply = true
+mixes screen = true
+mixes overlay = false
+mixes darken = false
+mixes lighten = true
+mixes colorDodge = false
+mixes colorBurn = false
+mixes hardLight = false
+mixes softLight = false
+mixes difference = true
+mixes exclusion = false
+
+-- a clamp of what lies within 0 and 1
+kept : (v : Float) → InUnit v → unitOf v ≡ v
+kept v p = unit-kept v (p .low) (p .high)
+
+module _ (p : Params) (s d : Rgba) (ps : InUnits s) (pd : InUnits d) (c : Colour) where
+  twice-kept : (v : Float) → InUnit v → unitOf (coBy spread (unitOf v) (at c s) (s .a) (at c d) (d .a)) ≡ coBy spread v (at c s) (s .a) (at c d) (d .a)
+  twice-kept v pv =
+      ap (λ (z : Float). unitOf (coBy spread z (at c s) (s .a) (at c d) (d .a))) (kept v pv)
+      ∙ kept (coBy spread v (at c s) (s .a) (at c d) (d .a)) (mixed-in pv (unit-at c s ps) (ps .a) (unit-at c d pd) (pd .a))
+
+  pub no-clamp : (m : Mode) → T (mixes m) → Same (at c (pixelOf (blendOp m) p s d)) (coBy spread (B m (at c d) (at c s)) (at c s) (s .a) (at c d) (d .a))
+  no-clamp multiply w = stored-is p s d multiply (held-of s ps) (held-of d pd) c tt ∙ ap plain (twice-kept (B multiply (at c d) (at c s)) (blend-in multiply tt (at c d) (at c s) (unit-at c d pd) (unit-at c s ps)))
+  no-clamp screen w = stored-is p s d screen (held-of s ps) (held-of d pd) c tt ∙ ap plain (twice-kept (B screen (at c d) (at c s)) (blend-in screen tt (at c d) (at c s) (unit-at c d pd) (unit-at c s ps)))
+  no-clamp lighten w = stored-is p s d lighten (held-of s ps) (held-of d pd) c tt ∙ ap plain (twice-kept (B lighten (at c d) (at c s)) (blend-in lighten tt (at c d) (at c s) (unit-at c d pd) (unit-at c s ps)))
+  no-clamp difference w = stored-is p s d difference (held-of s ps) (held-of d pd) c tt ∙ ap plain (twice-kept (B difference (at c d) (at c s)) (blend-in difference tt (at c d) (at c s) (unit-at c d pd) (unit-at c s ps)))
+  no-clamp overlay w = absurd w
+  no-clamp darken w = absurd w
+  no-clamp colorDodge w = absurd w
+  no-clamp colorBurn w = absurd w
+  no-clamp hardLight w = absurd w
+  no-clamp softLight w = absurd w
+  no-clamp exclusion w = absurd w
+
+  pub exact-at-edge : (m : Mode) → T (mixes m) → T (opaque (s .a) (d .a) || absent (s .a) (d .a)) → Same (at c (pixelOf (blendOp m) p s d)) (co m (at c s) (s .a) (at c d) (d .a))
+  exact-at-edge m w o =
+      let b = unit-at c d pd in
+      let f = unit-at c s ps in
+      no-clamp m w
+      ∙ mixed-at-edge (at c s) (s .a) (at c d) (d .a) f (ps .a) b (pd .a) (B m (at c d) (at c s)) (blend-fits m (at c d) (at c s) (b .held) (f .held)) (blend-bound m (at c d) (at c s) b f) o
