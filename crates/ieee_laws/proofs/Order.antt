@@ -201,3 +201,18 @@ lt-plain-r (fin s zero e) (fin t n d) =
 pub lt-same : (x x' y y' : Float) → Same x x' → Same y y' → lt x y ≡ lt x' y'
 lt-same x x' y y' p q =
     lt-plain-l x y ∙ ap (λ (z : Float). lt z y) p ∙ sym (lt-plain-l x' y) ∙ lt-plain-r y x' ∙ ap (λ (z : Float). lt x' z) q ∙ sym (lt-plain-r y' x')
+
+pub eq-zeros : (x y : Float) → Zero x → Zero y → eq x y ≡ true
+unfolding eq
+eq-zeros nan y p q = cc
+eq-zeros (inf s) y p q = cc
+eq-zeros (fin s (suc m) e) y p q = cc
+eq-zeros (fin s zero e) nan p q = cc
+eq-zeros (fin s zero e) (inf t) p q = cc
+eq-zeros (fin s zero e) (fin t (suc n) d) p q = cc
+eq-zeros (fin s zero e) (fin t zero d) p q =
+    (λ i. eq-eqb (0 * up e * down d) (0 * up d * down e) (none e d ∙ sym (none d e)) i && (Bool·beq s t || eq-eqb (0 * up e * down d) 0 (none e d) i)) ∙ or-true (Bool·beq s t)
+  where
+    or-true : (b : Bool) → b || true ≡ true
+    or-true true = refl
+    or-true false = refl

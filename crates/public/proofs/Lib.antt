@@ -16,3 +16,5 @@ mod Mixture
 pub mod Unclamped
 pub mod Screen
 pub mod NoClamp
+pub mod Domain
+pub mod Transparent

@@ -1,0 +1,120 @@
+-- On the documents' own domain, numbers from 0 to 1, the listed inputs come down to two: Over and DstOver where both alphas are 0, and ColorBurn of black on white. Every other
+-- hypothesis of PorterDuff.antt and Compositing.antt holds there. Assumes nothing.
+use mathlib.Core.Path.{_≡_, refl, sym, ap, _∙_, subst}
+use mathlib.Core.Bool.{Bool, true, false, cond, _&&_, _||_, true≢false}
+use Prim.Native.Nat.{ℕ, suc, _+_, _*_, _^_, _≤_, _<_}
+use native.Mathlib.Nat.{lt-of-lt-of-le, mul-le-mul-right}
+use native.Mathlib.Omega.{arith}
+use lib.IntN.{ℤ}
+use lib.Dec.{T, ltb, lt→ltb, lit≤}
+use lib.Ieee.{Float, nan, inf, fin, binary32, up, down, fits, lt, eq}
+use lib.Ieee.Fits.{add-fits, down-pos}
+use lib.Ieee.Scale.{finite}
+use Rattle.float_steps.specs.Notation.{_⊕_, _⊖_, _⊗_, f0, f1, half}
+use Rattle.ieee_laws.specs.Same.{plain, Same}
+use Rattle.ieee_laws.specs.Size.{AtMost, Unsigned, doubles}
+use Rattle.ieee_laws.proofs.Zero.{plain-twice, add-same}
+use Rattle.ieee_laws.proofs.Order.{lt-same}
+use Rattle.ieee_laws.proofs.Bound.{add-unsigned}
+use Rattle.public.specs.PorterDuff.{Operator, clear, A, B, AoverB, BoverA, AinB, BinA, AoutB, BoutA, AatopB, BatopA, AxorB, AplusB, coverage}
+use Rattle.public.specs.Compositing.{Mode, multiply, screen, overlay, darken, lighten, colorDodge, colorBurn, hardLight, softLight, difference, exclusion}
+use Rattle.public.specs.FractionDifferences.{Clears, ColourOutside, AlphaOutside}
+use Rattle.public.specs.BlendDifferences.{infinite, StoredOutside}
+use Rattle.public.specs.Range.{InUnit}
+use Rattle.public.proofs.InRange.{at-most-one, finite-of, unsigned, not-below, product-in, complement-in, one-in}
+
+-- ---- Porter and Duff
+sum-not-below : {x y : Float} → InUnit x → InUnit y → lt (x ⊕ y) f0 ≡ false
+sum-not-below {x} {y} p q =
+    lt-same (x ⊕ y) (plain x ⊕ plain y) f0 f0 (add-same binary32 x (plain x) y (plain y) (sym (plain-twice x)) (sym (plain-twice y))) refl
+    ∙ not-below (plain x ⊕ plain y) (add-unsigned binary32 (plain x) (plain y) (unsigned p) (unsigned q))
+
+-- the operators that do not divide
+abbrev pub undivided : Operator → Bool
+undivided clear = true
+undivided A = true
+undivided B = true
+undivided AoverB = false
+undivided BoverA = false
+undivided AinB = true
+undivided BinA = true
+undivided AoutB = true
+undivided BoutA = true
+undivided AatopB = true
+undivided BatopA = true
+undivided AxorB = true
+undivided AplusB = true
+
+module _ {s sa d da : Float} (ps : InUnit s) (psa : InUnit sa) (pd : InUnit d) (pda : InUnit da) where
+  source : T (finite (s ⊗ sa))
+  source = finite-of (product-in ps psa)
+
+  destination : T (finite (d ⊗ da))
+  destination = finite-of (product-in pd pda)
+
+  pub alpha-outside : (o : Operator) → AlphaOutside o sa da
+  alpha-outside clear = (finite-of psa, finite-of pda)
+  alpha-outside A = finite-of pda
+  alpha-outside B = finite-of psa
+  alpha-outside AoverB = sum-not-below (product-in psa one-in) (product-in pda (complement-in psa))
+  alpha-outside BoverA = sum-not-below (product-in psa (complement-in pda)) (product-in pda one-in)
+  alpha-outside AinB = finite-of pda
+  alpha-outside BinA = (finite-of psa, product-in psa pda .low)
+  alpha-outside AoutB = finite-of pda
+  alpha-outside BoutA = (finite-of psa, product-in pda (complement-in psa) .low)
+  alpha-outside AatopB = tt
+  alpha-outside BatopA = tt
+  alpha-outside AxorB = tt
+  alpha-outside AplusB = tt
+
+  pub colour-outside : (o : Operator) → T (undivided o) → ColourOutside o s sa d da
+  colour-outside clear w = (source, destination)
+  colour-outside A w = destination
+  colour-outside B w = source
+  colour-outside AoverB w = absurd w
+  colour-outside BoverA w = absurd w
+  colour-outside AinB w = destination
+  colour-outside BinA w = (source, record { above = product-in psa pda .low; calm = λ z. finite-of pd })
+  colour-outside AoutB w = destination
+  colour-outside BoutA w = (source, record { above = product-in pda (complement-in psa) .low; calm = λ z. finite-of pd })
+  colour-outside AatopB w = tt
+  colour-outside BatopA w = tt
+  colour-outside AxorB w = tt
+  colour-outside AplusB w = tt
+
+  -- ---- W3C
+  not-infinite : (b : Bool) {x : Float} → InUnit x → b && infinite x ≡ false
+  not-infinite b {x} p = and-false b (infinite x) (number x (finite-of p))
+    where
+      number : (x : Float) → T (finite x) → infinite x ≡ false
+      number nan h = refl
+      number (inf s) h = absurd h
+      number (fin s m e) h = refl
+
+      and-false : (a b : Bool) → b ≡ false → a && b ≡ false
+      and-false true b e = e
+      and-false false b e = refl
+
+  small : {x : Float} → InUnit x → T (doubles binary32 x)
+  small {x} p = each x (at-most-one p)
+    where
+      each : (x : Float) → AtMost 1 x → T (doubles binary32 x)
+      each nan u = absurd u
+      each (inf s) u = absurd u
+      each (fin s m e) u = lt→ltb (m * up e * 2) (2 ^ 128 * down e) (lt-of-lt-of-le (four (m * up e) (down e) (down-pos e) u) (mul-le-mul-right (down e) (lit≤ tt)))
+        where
+          four : (a c : ℕ) → 0 < c → a ≤ 1 * c → a * 2 < 4 * c
+          four a c p h = omega arith
+
+  pub stored-outside : (m : Mode) → (eq s f0 && eq d f1 ≡ false) → StoredOutside m s sa d da
+  stored-outside multiply n = tt
+  stored-outside screen n = tt
+  stored-outside overlay n = not-infinite (eq d half) ps
+  stored-outside darken n = tt
+  stored-outside lighten n = tt
+  stored-outside colorDodge n = (pd .low, ps .high)
+  stored-outside colorBurn n = (ps .low, pd .high, n)
+  stored-outside hardLight n = not-infinite (eq s half) pd
+  stored-outside softLight n = tt
+  stored-outside difference n = tt
+  stored-outside exclusion n = (small (product-in ps psa), small (product-in pd pda))
