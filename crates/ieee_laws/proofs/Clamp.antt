@@ -2,7 +2,7 @@
 use mathlib.Core.Path.{_≡_, refl, sym, ap, _∙_}
 use mathlib.Core.Bool.{Bool, true, false, cond, true≢false}
 use lib.Dec.{T}
-use lib.Ieee.{Float, nan, Format, binary32, ofBits, lt, isNan, fits}
+use lib.Ieee.{Float, Format, binary32, ofBits, lt, isNan, fits}
 use lib.Ieee.Fits.{cond-fits}
 use lib.Ieee.Bits.{ofBits-fits}
 use Rattle.float_steps.specs.Notation.{f0, f1}
@@ -10,35 +10,36 @@ use Rattle.float_steps.specs.Order.{smallerOf, largerOf, clampOf, unitOf}
 use Rattle.ieee_laws.specs.Same.{plain, Same}
 use Rattle.ieee_laws.proofs.Order.{lt-asym, tie, nan-lt, lt-nan, is-nan, lt-same}
 
+-- two choices between a and b, by tests x and y that are not both true, and that a NaN makes false
+choice : (f : Format) (a b : Float) (x y : Bool) → T (fits f a) → T (fits f b) → (isNan a ≡ true → y ≡ false) → (isNan b ≡ true → x ≡ false) → (x ≡ true → y ≡ false) → (x ≡ false → y ≡ false → isNan a ≡ false → isNan b ≡ false → Same a b)
+    → Same (cond (isNan a) b (cond x b a)) (cond (isNan b) a (cond y a b))
+choice f a b x y p q na nb asym tied = go (isNan a) (isNan b) x y refl refl na nb asym tied
+  where
+    go : (u v x y : Bool) → isNan a ≡ u → isNan b ≡ v → (u ≡ true → y ≡ false) → (v ≡ true → x ≡ false) → (x ≡ true → y ≡ false) → (x ≡ false → y ≡ false → u ≡ false → v ≡ false → Same a b)
+        → Same (cond u b (cond x b a)) (cond v a (cond y a b))
+    go true true x y i j k l m n = ap plain (is-nan b j ∙ sym (is-nan a i))
+    go true false x true i j k l m n = absurd (true≢false (k refl))
+    go true false x false i j k l m n = refl
+    go false true true y i j k l m n = absurd (true≢false (l refl))
+    go false true false y i j k l m n = refl
+    go false false true true i j k l m n = absurd (true≢false (m refl))
+    go false false true false i j k l m n = refl
+    go false false false true i j k l m n = refl
+    go false false false false i j k l m n = n refl refl refl refl
+
+nan-less : (a b : Float) → isNan a ≡ true → lt a b ≡ false
+nan-less a b i = ap (λ (w : Float). lt w b) (is-nan a i) ∙ nan-lt b
+
+less-nan : (a b : Float) → isNan b ≡ true → lt a b ≡ false
+less-nan a b i = ap (λ (w : Float). lt a w) (is-nan b i) ∙ lt-nan a
+
 pub smaller-commutes : (f : Format) (a b : Float) → T (fits f a) → T (fits f b) → Same (smallerOf a b) (smallerOf b a)
 unfolding smallerOf
-smaller-commutes f a b p q = go (isNan a) (isNan b) (lt b a) (lt a b) refl refl refl refl
-  where
-    go : (u v x y : Bool) → isNan a ≡ u → isNan b ≡ v → lt b a ≡ x → lt a b ≡ y → Same (cond u b (cond x b a)) (cond v a (cond y a b))
-    go true true x y i j k l = ap plain (is-nan b j ∙ sym (is-nan a i))
-    go true false x true i j k l = absurd (true≢false (sym l ∙ ap (λ (w : Float). lt w b) (is-nan a i) ∙ nan-lt b))
-    go true false x false i j k l = refl
-    go false true true y i j k l = absurd (true≢false (sym k ∙ ap (λ (w : Float). lt w a) (is-nan b j) ∙ nan-lt a))
-    go false true false y i j k l = refl
-    go false false true true i j k l = absurd (true≢false (sym l ∙ lt-asym b a k))
-    go false false true false i j k l = refl
-    go false false false true i j k l = refl
-    go false false false false i j k l = tie f a b p q i j l k
+smaller-commutes f a b p q = choice f a b (lt b a) (lt a b) p q (nan-less a b) (nan-less b a) (lt-asym b a) (λ x y u v. tie f a b p q u v y x)
 
 pub larger-commutes : (f : Format) (a b : Float) → T (fits f a) → T (fits f b) → Same (largerOf a b) (largerOf b a)
 unfolding largerOf
-larger-commutes f a b p q = go (isNan a) (isNan b) (lt b a) (lt a b) refl refl refl refl
-  where
-    go : (u v x y : Bool) → isNan a ≡ u → isNan b ≡ v → lt b a ≡ x → lt a b ≡ y → Same (cond u b (cond y b a)) (cond v a (cond x a b))
-    go true true x y i j k l = ap plain (is-nan b j ∙ sym (is-nan a i))
-    go true false true y i j k l = absurd (true≢false (sym k ∙ ap (λ (w : Float). lt b w) (is-nan a i) ∙ lt-nan b))
-    go true false false y i j k l = refl
-    go false true x true i j k l = absurd (true≢false (sym l ∙ ap (λ (w : Float). lt a w) (is-nan b j) ∙ lt-nan a))
-    go false true x false i j k l = refl
-    go false false true true i j k l = absurd (true≢false (sym l ∙ lt-asym b a k))
-    go false false true false i j k l = refl
-    go false false false true i j k l = refl
-    go false false false false i j k l = tie f a b p q i j l k
+larger-commutes f a b p q = choice f a b (lt a b) (lt b a) p q (less-nan b a) (less-nan a b) (lt-asym a b) (λ x y u v. tie f a b p q u v x y)
 
 pub clamp-same : (x y lo hi : Float) → Same x y → Same (clampOf x lo hi) (clampOf y lo hi)
 unfolding clampOf

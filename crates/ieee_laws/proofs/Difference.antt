@@ -4,13 +4,12 @@ use mathlib.Core.Bool.{Bool, true, false, not, cond, _&&_}
 use Prim.Native.Nat.{ℕ, zero, suc, _+_, _-_, _*_, _/_, _%_, _^_, _≤_, _<_, compare}
 use native.Mathlib.Nat.{add-comm, mul-comm, mul-pos}
 use native.Mathlib.Omega.{arith}
-use lib.IntN.{ℤ}
 use lib.Dec.{ltb}
 use lib.Ieee.{Float, nan, inf, fin, Format, emax, prec, low, up, down, size, nearest, odd, units, round, sum, add, sub, neg}
 use lib.Ieee.Fits.{down-pos}
 use borrow.Author.Tests.{ltb-true, ltb-false}
 use Rattle.ieee_laws.specs.Same.{plain, Same}
-use Rattle.ieee_laws.proofs.Zero.{round-zero, neg-same}
+use Rattle.ieee_laws.proofs.Zero.{round-zero}
 
 pub neg-neg : (x : Float) → neg (neg x) ≡ x
 unfolding neg

@@ -7,7 +7,7 @@ use native.Mathlib.Nat.{zero-lt-suc, zero-mul, zero-add, add-zero, mul-pos, le-a
 use native.Mathlib.Omega.{arith}
 use lib.IntN.{ℤ, pos}
 use lib.Dec.{T, ltb, eqb, eqb→eq}
-use lib.Ieee.{Float, nan, inf, fin, Format, up, down, below, level, lt, le, eq, isNan, fits}
+use lib.Ieee.{Float, nan, inf, fin, Format, up, down, below, level, lt, eq, isNan, fits}
 use lib.Ieee.Fits.{up-pos, down-pos, and-l, and-r}
 use borrow.Author.Tests.{ltb-true, ltb-false, eqb-true, lt-ltb, le-ltb, eq-eqb}
 use Rattle.ieee_laws.specs.Same.{plain, Same, Zero}

@@ -1,10 +1,10 @@
 -- Doubling is exact short of overflow, so that in 2 * x * y it may move from the one factor to the other. Over the format. Assumes nothing.
 use mathlib.Core.Path.{_≡_, refl, sym, ap, _∙_, subst}
-use mathlib.Core.Bool.{Bool, true, false, cond, true≢false}
+use mathlib.Core.Bool.{Bool, true, false, cond}
 use Prim.Native.Nat.{ℕ, zero, suc, _*_, _^_, _<_}
 use native.Mathlib.Nat.{one-mul, zero-mul, mul-pos, mul-comm, mul-assoc, mul-mul-mul-comm, lt-irrefl, zero-lt-suc}
 use lib.IntN.{ℤ}
-use lib.Dec.{T, ltb, eqb, ltb→lt}
+use lib.Dec.{T, eqb, ltb→lt}
 use lib.Ieee.{Float, nan, inf, fin, Format, emax, up, down, unlike, round, mul, fits}
 use lib.Ieee.Fits.{up-pos, down-pos}
 use lib.Ieee.Exact.{HasValue}

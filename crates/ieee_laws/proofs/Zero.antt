@@ -27,6 +27,13 @@ of-plain (inf s) t n d h = h
 of-plain (fin s (suc m) e) t n d h = h
 of-plain (fin s zero e) t n d h = cc
 
+-- an operation that commutes, and that takes -0 for +0 on its left
+both-sides : (op : Float → Float → Float) → ((x y : Float) → op x y ≡ op y x) → ((x y : Float) → Same (op x y) (op (plain x) y)) → (x x' y y' : Float) → Same x x' → Same y y' → Same (op x y) (op x' y')
+both-sides op comm left x x' y y' p q = swap x x' y p ∙ ap plain (comm x' y) ∙ swap y y' x' q ∙ ap plain (comm y' x')
+  where
+    swap : (x x' y : Float) → Same x x' → Same (op x y) (op x' y)
+    swap x x' y p = left x y ∙ ap (λ (z : Float). plain (op z y)) p ∙ sym (left x' y)
+
 -- ---- zero in a product
 nil : (f : Format) (s : Bool) → round f s 0 1 ≡ fin s 0 (pos 0)
 unfolding round
@@ -52,15 +59,7 @@ mul-plain f (fin s zero e) (fin t n d) =
     ∙ sym (round-zero f (unlike false t) (0 * 1 * (n * up d)) (1 * down d) (mul-pos (zero-lt-suc 0) (down-pos d)) (ap (λ (z : ℕ). z * (n * up d)) (zero-mul 1) ∙ zero-mul (n * up d)))
 
 pub mul-same : (f : Format) (x x' y y' : Float) → Same x x' → Same y y' → Same (mul f x y) (mul f x' y')
-mul-same f x x' y y' p q =
-    mul-plain f x y
-    ∙ ap (λ (z : Float). plain (mul f z y)) p
-    ∙ sym (mul-plain f x' y)
-    ∙ ap plain (mul-commutes f x' y)
-    ∙ mul-plain f y x'
-    ∙ ap (λ (z : Float). plain (mul f z x')) q
-    ∙ sym (mul-plain f y' x')
-    ∙ ap plain (mul-commutes f y' x')
+mul-same f = both-sides (mul f) (mul-commutes f) (mul-plain f)
 
 pub times-zero : (f : Format) (x z : Float) → T (finite x) → Zero z → Zero (mul f x z)
 unfolding mul
@@ -100,15 +99,7 @@ add-plain f (fin s zero e) (fin t n d) =
     ∙ sym (sum-nil f false (0 * 1 * down d) t (n * up d * 1) (1 * down d) (mul-pos (zero-lt-suc 0) (down-pos d)) (ap (λ (z : ℕ). z * down d) (zero-mul 1) ∙ zero-mul (down d)))
 
 pub add-same : (f : Format) (x x' y y' : Float) → Same x x' → Same y y' → Same (add f x y) (add f x' y')
-add-same f x x' y y' p q =
-    add-plain f x y
-    ∙ ap (λ (z : Float). plain (add f z y)) p
-    ∙ sym (add-plain f x' y)
-    ∙ ap plain (add-commutes f x' y)
-    ∙ add-plain f y x'
-    ∙ ap (λ (z : Float). plain (add f z x')) q
-    ∙ sym (add-plain f y' x')
-    ∙ ap plain (add-commutes f y' x')
+add-same f = both-sides (add f) (add-commutes f) (add-plain f)
 
 zero-add-0 : (f : Format) (x : Float) → T (fits f x) → Same (add f (fin false 0 (pos 0)) x) x
 unfolding add

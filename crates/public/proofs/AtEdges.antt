@@ -1,15 +1,14 @@
 -- On numbers from 0 to 1, with one alpha 0 or 1: the stored colour of the modes that mix is W3C's co as it is printed, clamped, and divided where the convention divides;
 -- with one alpha 0, or both 1, alpha is W3C's. Assumes nothing.
-use mathlib.Core.Path.{_≡_, refl, sym, ap, _∙_, subst}
+use mathlib.Core.Path.{refl, sym, ap, _∙_, subst}
 use mathlib.Core.Logic.{_⊎_, inl, inr}
 use mathlib.Core.Bool.{Bool, true, false, cond, _||_}
-use Prim.Native.Nat.{ℕ, _+_, _*_, _^_, _≤_}
+use Prim.Native.Nat.{_≤_}
 use lib.Dec.{T, lit≤}
 use lib.Ieee.{Float, binary32, fits, lt, eq}
-use lib.Ieee.Scale.{finite}
 use Rattle.float_steps.specs.Notation.{_⊕_, _⊖_, _⊗_, f0, f1}
 use Rattle.float_steps.specs.Order.{unitOf, clampOf}
-use Rattle.ieee_laws.specs.Same.{plain, Same, Zero}
+use Rattle.ieee_laws.specs.Same.{plain, Same}
 use Rattle.ieee_laws.specs.Size.{AtMost}
 use Rattle.ieee_laws.proofs.Bound.{at-most-finite, mul-bound, add-bound, at-most-more, cond-bound}
 use Rattle.ieee_laws.proofs.Clamp.{unit-same, unit-fits}

@@ -1,13 +1,12 @@
 -- Where the steps of BlendDifferences.antt make no difference: the mixing, wherever one of the alphas is 0 or 1; alpha, where one is 0 and where both are 1. Assumes nothing.
 use mathlib.Core.Path.{_≡_, refl, sym, ap, _∙_}
-use mathlib.Core.Bool.{Bool, true, false}
 use lib.Dec.{T}
 use lib.Ieee.{Float, binary32, ofBits, add, mul, sub, fits}
 use lib.Ieee.Fits.{mul-fits, add-fits, sub-fits}
 use lib.Ieee.Scale.{finite}
-use Rattle.float_steps.specs.Notation.{_⊕_, _⊖_, _⊗_, f0, f1}
+use Rattle.float_steps.specs.Notation.{_⊕_, _⊖_, _⊗_, f1}
 use Rattle.ieee_laws.specs.Same.{plain, Same, Zero}
-use Rattle.ieee_laws.proofs.Commute.{mul-commutes, add-commutes}
+use Rattle.ieee_laws.proofs.Commute.{add-commutes}
 use Rattle.ieee_laws.proofs.Zero.{times-zero, zero-times, plus-zero, zero-plus, minus-zero, add-same, mul-same}
 use Rattle.public.specs.Compositing.{αo}
 use Rattle.public.specs.BlendDifferences.{union, printed, spread, coBy}

@@ -6,7 +6,7 @@ use native.Mathlib.Nat.{le-trans, le-of-eq, mul-le-mul-right, mul-pos, mul-assoc
 use native.Mathlib.Omega.{arith}
 use lib.IntN.{ℤ}
 use lib.Dec.{T, ltb, eqb, lit≤}
-use lib.Ieee.{Float, nan, inf, fin, binary32, up, down, ofBits, add, sub, mul, div, neg, sum, round, fits, lt, le, eq, isNan}
+use lib.Ieee.{Float, nan, inf, fin, binary32, up, down, ofBits, add, sub, div, neg, sum, round, fits, lt, le, eq, isNan}
 use lib.Ieee.Fits.{mul-fits, add-fits, sub-fits, div-fits, cond-fits, down-pos}
 use borrow.Author.Tests.{ltb-true, ltb-false, eq-eqb}
 use Rattle.float_steps.specs.Notation.{_⊕_, _⊖_, _⊗_, _⊘_, lit, f0, f1, f2, half}

@@ -2,12 +2,11 @@
 -- Assumes nothing.
 use mathlib.Core.Path.{_≡_, refl, sym, ap, _∙_, subst}
 use mathlib.Core.Bool.{Bool, true, false, cond, _&&_, _||_, true≢false}
-use lib.IntN.{pos, negsuc}
+use lib.IntN.{negsuc}
 use lib.Dec.{T}
 use lib.Ieee.{Float, nan, inf, fin, binary32, ofBits, add, mul, sub, fits, lt, le, eq}
 use lib.Ieee.Fits.{add-fits, div-fits}
 use lib.Ieee.Bits.{ofBits-fits}
-use lib.Ieee.Scale.{finite}
 use Rattle.float_steps.specs.Notation.{_⊕_, _⊖_, _⊗_, _⊘_, f0, f1, f2, half}
 use Rattle.float_steps.specs.Order.{smallerOf}
 use Rattle.ieee_laws.specs.Same.{plain, Same, Zero}

@@ -5,7 +5,7 @@ use mathlib.Core.Path.{_≡_}
 use mathlib.Core.Bool.{false, _&&_}
 use lib.Dec.{T}
 use lib.Ieee.{Float, binary32, lt, eq}
-use Rattle.float_steps.specs.Notation.{_⊕_, _⊖_, _⊗_, _⊘_, f0, f1, half}
+use Rattle.float_steps.specs.Notation.{_⊕_, _⊗_, f0, f1, half}
 use Rattle.float_steps.specs.Order.{unitOf}
 use Rattle.ieee_laws.specs.Same.{Same}
 use Rattle.ieee_laws.specs.Size.{doubles}
@@ -14,7 +14,7 @@ use Rattle.operators.specs.declared.CompositeOp.the-variants as O
 use Rattle.pictures.specs.declared.Rgba.{Rgba}
 use Rattle.pixels.specs.declared.Params.{Params}
 use Rattle.pixels.specs.Pixel.{pixelOf}
-use Rattle.public.specs.Compositing.{Mode, multiply, screen, overlay, darken, lighten, colorDodge, colorBurn, hardLight, softLight, difference, exclusion, B}
+use Rattle.public.specs.Compositing.{multiply, screen, overlay, darken, lighten, colorDodge, colorBurn, hardLight, softLight, difference, exclusion, B}
 use Rattle.public.specs.Operators.{Colour, at, Held}
 use Rattle.public.specs.BlendDifferences.{union, uncovered, spread, coBy, overUnion, infinite}
 use Rattle.public.proofs.Stored.{stored-is, union-alpha}

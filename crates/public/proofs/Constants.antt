@@ -1,16 +1,16 @@
 -- 0, 1, 2 and a half in the laws of IEEE arithmetic, on binary32. Assumes nothing.
 use mathlib.Core.Path.{_≡_, refl, sym, ap, _∙_, subst}
-use mathlib.Core.Bool.{Bool, true, false, cond, _||_}
+use mathlib.Core.Bool.{Bool, false, _||_}
 use lib.IntN.{pos, negsuc}
 use lib.Dec.{T}
-use lib.Ieee.{Float, fin, binary32, ofBits, add, sub, mul, fits, lt, le, eq}
+use lib.Ieee.{Float, fin, binary32, ofBits, sub, fits, lt, le, eq}
 use lib.Ieee.Scale.{finite}
 use Rattle.float_steps.specs.Notation.{_⊕_, _⊖_, _⊗_, _⊘_, f0, f1, f2, half}
 use Rattle.ieee_laws.specs.Same.{plain, Same, Zero}
 use Rattle.ieee_laws.specs.Size.{one, two}
 use Rattle.ieee_laws.proofs.Commute.{mul-commutes}
 use Rattle.ieee_laws.proofs.One.{times-one, over-one}
-use Rattle.ieee_laws.proofs.Zero.{times-zero, zero-times, plus-zero, zero-plus, minus-zero, of-plain}
+use Rattle.ieee_laws.proofs.Zero.{times-zero, plus-zero, zero-plus, minus-zero, of-plain}
 use Rattle.ieee_laws.proofs.Order.{eq-same}
 use Rattle.ieee_laws.proofs.Clamp.{zero-fits, one-fits}
 

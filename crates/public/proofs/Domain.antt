@@ -1,24 +1,23 @@
 -- On the documents' own domain, numbers from 0 to 1, the listed inputs come down to two: Over and DstOver where both alphas are 0, and ColorBurn of black on white. Every other
 -- hypothesis of PorterDuff.antt and Compositing.antt holds there. Assumes nothing.
-use mathlib.Core.Path.{_≡_, refl, sym, ap, _∙_, subst}
-use mathlib.Core.Bool.{Bool, true, false, cond, _&&_, _||_, true≢false}
-use Prim.Native.Nat.{ℕ, suc, _+_, _*_, _^_, _≤_, _<_}
+use mathlib.Core.Path.{_≡_, refl, sym, _∙_}
+use mathlib.Core.Bool.{Bool, true, false, _&&_}
+use Prim.Native.Nat.{ℕ, _*_, _^_, _≤_, _<_}
 use native.Mathlib.Nat.{lt-of-lt-of-le, mul-le-mul-right}
 use native.Mathlib.Omega.{arith}
-use lib.IntN.{ℤ}
-use lib.Dec.{T, ltb, lt→ltb, lit≤}
-use lib.Ieee.{Float, nan, inf, fin, binary32, up, down, fits, lt, eq}
-use lib.Ieee.Fits.{add-fits, down-pos}
+use lib.Dec.{T, lt→ltb, lit≤}
+use lib.Ieee.{Float, nan, inf, fin, binary32, up, down, lt, eq}
+use lib.Ieee.Fits.{down-pos}
 use lib.Ieee.Scale.{finite}
-use Rattle.float_steps.specs.Notation.{_⊕_, _⊖_, _⊗_, f0, f1, half}
-use Rattle.ieee_laws.specs.Same.{plain, Same}
-use Rattle.ieee_laws.specs.Size.{AtMost, Unsigned, doubles}
+use Rattle.float_steps.specs.Notation.{_⊕_, _⊗_, f0, f1, half}
+use Rattle.ieee_laws.specs.Same.{plain}
+use Rattle.ieee_laws.specs.Size.{AtMost, doubles}
 use Rattle.ieee_laws.proofs.Zero.{plain-twice, add-same}
 use Rattle.ieee_laws.proofs.Order.{lt-same}
 use Rattle.ieee_laws.proofs.Bound.{add-unsigned}
-use Rattle.public.specs.PorterDuff.{Operator, clear, A, B, AoverB, BoverA, AinB, BinA, AoutB, BoutA, AatopB, BatopA, AxorB, AplusB, coverage}
+use Rattle.public.specs.PorterDuff.{Operator, clear, A, B, AoverB, BoverA, AinB, BinA, AoutB, BoutA, AatopB, BatopA, AxorB, AplusB}
 use Rattle.public.specs.Compositing.{Mode, multiply, screen, overlay, darken, lighten, colorDodge, colorBurn, hardLight, softLight, difference, exclusion}
-use Rattle.public.specs.FractionDifferences.{Clears, ColourOutside, AlphaOutside}
+use Rattle.public.specs.FractionDifferences.{ColourOutside, AlphaOutside}
 use Rattle.public.specs.BlendDifferences.{infinite, StoredOutside}
 use Rattle.public.specs.Range.{InUnit}
 use Rattle.public.proofs.InRange.{at-most-one, finite-of, unsigned, not-below, product-in, complement-in, one-in}

@@ -1,12 +1,12 @@
 -- Where the steps of FractionDifferences.antt make no difference: a product regrouped, if the coverage or the fraction is 0 or 1; Atop's alpha, if the source covers all or
 -- nothing or the destination nothing; Plus's cut, if the sum is a number not above 1; Over where neither picture covers. Assumes nothing.
 use mathlib.Core.Path.{_≡_, refl, sym, ap, _∙_}
-use mathlib.Core.Bool.{Bool, true, false, cond}
+use mathlib.Core.Bool.{false, cond}
 use lib.Dec.{T}
 use lib.Ieee.{Float, binary32, fits, lt, isNan}
 use lib.Ieee.Fits.{mul-fits}
 use lib.Ieee.Scale.{finite}
-use Rattle.float_steps.specs.Notation.{_⊕_, _⊖_, _⊗_, f0, f1}
+use Rattle.float_steps.specs.Notation.{_⊕_, _⊖_, _⊗_, f1}
 use Rattle.float_steps.specs.Order.{smallerOf}
 use Rattle.ieee_laws.specs.Same.{plain, Same, Zero}
 use Rattle.ieee_laws.proofs.Commute.{add-commutes}

@@ -1,28 +1,26 @@
 -- Every operator that Porter and Duff define is theirs: the alpha and each colour of the compositor's pixel are the paper's two sums, in the form in which document 01
 -- has them stored, with the steps of FractionDifferences.antt and outside its inputs. Porter and Duff's thirteen are one theorem for alpha and one for the colours.
 -- Assumes nothing.
-use mathlib.Core.Path.{_≡_, refl, sym, ap, _∙_, subst}
+use mathlib.Core.Path.{_≡_, refl, sym, ap, _∙_}
 use mathlib.Core.Bool.{Bool, true, false, cond}
 use lib.Dec.{T}
 use lib.Ieee.{Float, binary32, fits, lt, le, eq}
 use lib.Ieee.Fits.{mul-fits, add-fits}
-use lib.Ieee.Scale.{finite}
 use Rattle.float_steps.specs.Notation.{_⊕_, _⊖_, _⊗_, _⊘_, f0, f1}
 use Rattle.float_steps.specs.Order.{smallerOf}
 use Rattle.ieee_laws.specs.Same.{plain, Same, Zero}
 use Rattle.ieee_laws.proofs.Commute.{mul-commutes, add-commutes}
 use Rattle.ieee_laws.proofs.Zero.{times-zero, zero-plus}
-use Rattle.ieee_laws.proofs.Clamp.{zero-fits}
 use Rattle.pictures.specs.declared.Rgba.{Rgba}
 use Rattle.pixels.specs.declared.Params.{Params}
 use Rattle.pixels.specs.Channel.{overChannel, atopChannel, xorChannel, plusChannel}
-use Rattle.pixels.specs.Pixel.{pixelOf, onColours, withAlpha, overBy, overOf, keptWhereClear, straightOrClearOf, clear}
+use Rattle.pixels.specs.Pixel.{pixelOf, onColours, withAlpha, overBy, keptWhereClear, straightOrClearOf, clear}
 use Rattle.public.specs.PorterDuff.{Operator, A, B, AoverB, BoverA, AinB, BinA, AoutB, BoutA, AatopB, BatopA, AxorB, AplusB, coverage}
 use Rattle.public.specs.PorterDuff as P
 use Rattle.public.specs.Operators.{Colour, at, Held, porterDuffOp}
 use Rattle.public.specs.FractionDifferences.{form, IsColour, IsAlpha, colourBy, coverageBy, Clears, ColourOutside, AlphaOutside}
 use Rattle.public.proofs.Constants.{zero-is, by-one, by-zero, first, second, is-zero, none-left}
-use Rattle.public.proofs.Pixels.{held-at, on-colours, on-premult, on-alpha, on-clear}
+use Rattle.public.proofs.Pixels.{on-colours, on-premult, on-alpha, on-clear}
 
 -- ---- tests of alpha
 -- an alpha that is not below 0 is kept, or is a zero and becomes +0

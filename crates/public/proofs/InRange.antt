@@ -5,8 +5,8 @@ use Prim.Native.Nat.{ℕ, zero, suc, _+_, _-_, _*_, _≤_, _<_, zero-le}
 use native.Mathlib.Nat.{mul-one, le-trans, le-of-eq, zero-mul, zero-lt-suc, mul-pos}
 use native.Mathlib.Omega.{arith}
 use lib.IntN.{ℤ}
-use lib.Dec.{T, ltb, lit≤}
-use lib.Ieee.{Float, nan, inf, fin, binary32, up, down, ofBits, add, sub, neg, sum, mul, fits, lt, isNan, round}
+use lib.Dec.{T, lit≤}
+use lib.Ieee.{Float, nan, inf, fin, binary32, up, down, ofBits, add, sub, neg, sum, fits, lt, isNan, round}
 use lib.Ieee.Fits.{mul-fits, sub-fits, up-pos, down-pos}
 use lib.Ieee.Scale.{finite}
 use borrow.Author.Tests.{ltb-false, le-ltb}
@@ -134,6 +134,16 @@ pub complement-in : {x : Float} → InUnit x → InUnit (f1 ⊖ x)
 complement-in {x} p =
     let q = less-in (plain x) (unsigned p) (plain-bound 1 x (at-most-one p)) in
     in-unit-same (f1 ⊖ x) (f1 ⊖ plain x) (sub-fits binary32 f1 x) (sub-same binary32 f1 f1 x (plain x) refl (sym (plain-twice x))) (q .0) (q .1)
+
+-- ---- +0 for -0
+pub plain-in : {x : Float} → InUnit x → InUnit (plain x)
+plain-in {x} p = in-unit (plain x) (plain-fits x (p .held)) (lt-same (plain x) x f0 f0 (plain-twice x) refl ∙ p .low) (plain-bound 1 x (at-most-one p))
+  where
+    plain-fits : (x : Float) → T (fits binary32 x) → T (fits binary32 (plain x))
+    plain-fits nan h = h
+    plain-fits (inf s) h = h
+    plain-fits (fin s (suc m) e) h = h
+    plain-fits (fin s zero e) h = unfold fits in tt
 
 -- ---- pixels
 pub unit-at : (c : Colour) (p : Rgba) → InUnits p → InUnit (at c p)

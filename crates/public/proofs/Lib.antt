@@ -1,20 +1,26 @@
-pub mod Constants
-pub mod Pixels
+-- The theorems, one an operator; and that each listed difference is one
+pub mod PorterDuff
+pub mod Compositing
+pub mod Rows
+-- In general: the fractions, the blend functions, what a convention stores
 pub mod Fractions
 pub mod Blends
 pub mod Stored
-pub mod Rows
-pub mod InRange
-pub mod FractionEdges
-pub mod BlendEdges
-pub mod BlendRange
-pub mod PorterDuff
-pub mod Compositing
-pub mod AtEdges
-pub mod Opaque
-mod Mixture
-pub mod Unclamped
-pub mod Screen
-pub mod NoClamp
+-- Where the listed differences vanish
 pub mod Domain
 pub mod Transparent
+pub mod FractionEdges
+pub mod BlendEdges
+pub mod AtEdges
+pub mod Opaque
+pub mod NoClamp
+-- Numbers from 0 to 1
+pub mod InRange
+pub mod BlendRange
+pub mod Mixture
+pub mod UnitSteps
+pub mod MixtureRange
+pub mod Screen
+-- Small things
+pub mod Constants
+pub mod Pixels

@@ -1,6 +1,6 @@
 -- Multiply, Screen, Lighten and Difference on numbers from 0 to 1: the stored colour is W3C's formula with its mixing step alone, the clamps having nothing to do; and where an
 -- alpha is 0 or 1 it is W3C's co as printed. Assumes nothing.
-use mathlib.Core.Path.{_≡_, refl, sym, ap, _∙_}
+use mathlib.Core.Path.{_≡_, ap, _∙_}
 use mathlib.Core.Bool.{Bool, true, false, _||_}
 use lib.Dec.{T}
 use lib.Ieee.{Float}
@@ -16,7 +16,7 @@ use Rattle.public.specs.BlendDifferences.{spread, coBy}
 use Rattle.public.specs.Range.{InUnit, InUnits, opaque, absent}
 use Rattle.public.proofs.InRange.{unit-at, held-of}
 use Rattle.public.proofs.BlendRange.{blend-fits, blend-bound, blend-in}
-use Rattle.public.proofs.Unclamped.{mixed-in}
+use Rattle.public.proofs.MixtureRange.{mixed-in}
 use Rattle.public.proofs.AtEdges.{mixed-at-edge}
 use Rattle.public.proofs.Stored.{stored-is}
 

@@ -1,11 +1,10 @@
 -- Two opaque pixels of numbers from 0 to 1: every mode is W3C's printed formula, clamped, and Multiply, Screen, Darken, Lighten, ColorDodge, ColorBurn and Difference are
 -- it with no clamp to be seen. Alpha is W3C's. Assumes nothing.
-use mathlib.Core.Path.{_≡_, refl, sym, ap, _∙_, subst}
-use mathlib.Core.Bool.{Bool, true, false, cond}
+use mathlib.Core.Path.{_≡_, refl, sym, ap, _∙_}
+use mathlib.Core.Bool.{Bool, true, cond}
 use lib.Dec.{T}
 use lib.Ieee.{Float, binary32, ofBits, add, sub, mul, fits, lt}
 use lib.Ieee.Fits.{mul-fits, add-fits}
-use lib.Ieee.Scale.{finite}
 use Rattle.float_steps.specs.Notation.{_⊕_, _⊖_, _⊗_, _⊘_, f0, f1}
 use Rattle.float_steps.specs.Order.{unitOf}
 use Rattle.ieee_laws.specs.Same.{plain, Same, Zero}

@@ -1,14 +1,14 @@
--- On numbers from 0 to 1 Screen's blend, x + y - x y with each step rounded, is at most 1. In the units of Unclamped.antt: the sum errs by 4 E at most, the product by less, and
+-- On numbers from 0 to 1 Screen's blend, x + y - x y with each step rounded, is at most 1. In the units of UnitSteps.antt: the sum errs by 4 E at most, the product by less, and
 -- what is too much is at most 4 E, which rounds to 1. Assumes nothing.
 use mathlib.Core.Path.{_≡_, refl, sym, ap, _∙_, subst}
-use mathlib.Core.Logic.{_⊎_, inl, inr}
+use mathlib.Core.Logic.{inl, inr}
 use mathlib.Core.Bool.{Bool, true, false}
-use Prim.Native.Nat.{ℕ, zero, suc, _+_, _-_, _*_, _/_, _^_, _≤_, _<_}
-use native.Mathlib.Nat.{le-trans, le-of-eq, lt-of-le-of-lt, lt-of-lt-of-le, add-mul, mul-add, add-comm, add-sub-of-le, mul-comm, mul-assoc, mul-right-comm, mul-sub, one-mul, mul-le-mul, mul-le-mul-left, mul-le-mul-right, mul-lt-mul-of-pos-right, le-of-mul-le-mul-right, lt-of-mul-lt-mul-right, div-lt-iff-lt-mul, lt-of-not-le, not-le-of-lt}
+use Prim.Native.Nat.{ℕ, _+_, _-_, _*_, _/_, _^_, _≤_, _<_}
+use native.Mathlib.Nat.{le-trans, le-of-eq, lt-of-le-of-lt, lt-of-lt-of-le, add-mul, mul-add, add-comm, add-sub-of-le, mul-comm, mul-assoc, mul-right-comm, mul-sub, one-mul, mul-le-mul, mul-le-mul-left, mul-le-mul-right, mul-lt-mul-of-pos-right, le-of-mul-le-mul-right, lt-of-mul-lt-mul-right, div-lt-iff-lt-mul}
 use native.Mathlib.Omega.{arith}
 use lib.Dec.{T, ltb, lit≤, lit<}
 use lib.Pow.{pow-pos}
-use lib.Ieee.{Float, binary32, ofBits, round, fits, le}
+use lib.Ieee.{Float, binary32, ofBits, le}
 use lib.Ieee.Fits.{sub-fits}
 use lib.Ieee.Bits.{ofBits-fits}
 use lib.Ieee.Exact.{round-exact}
@@ -20,11 +20,12 @@ use Rattle.ieee_laws.specs.Same.{plain, Same}
 use Rattle.ieee_laws.specs.Size.{AtMost, Unsigned, Counts, Near}
 use Rattle.ieee_laws.proofs.Zero.{plain-twice, add-same, mul-same, sub-same}
 use Rattle.ieee_laws.proofs.Bound.{round-unsigned}
-use Rattle.ieee_laws.proofs.Units.{add-counts, sub-counts, round-counts, round-within, round-at-most, round-at-least, counts-le, one-count, at-most-count}
+use Rattle.ieee_laws.proofs.Units.{add-counts, sub-counts, round-counts, round-within, round-at-most, round-at-least, counts-le, at-most-count}
 use Rattle.public.specs.Range.{InUnit}
-use Rattle.public.proofs.InRange.{unsigned, in-unit-same}
+use Rattle.public.proofs.InRange.{unsigned, in-unit-same, plain-in}
 use Rattle.public.proofs.Mixture.{Fine}
-use Rattle.public.proofs.Unclamped.{E, U, H, M, R, g, Part, part, bounded, fraction, MM, MMM, near-whole, one-counts, to-one, total, times, product-of, plain-in}
+use Rattle.public.proofs.MixtureRange.{to-one}
+use Rattle.public.proofs.UnitSteps.{E, U, H, M, R, g, Part, part, bounded, fraction, MM-pos, M-pos, near-whole, one-counts, total, times, product-of}
 
 -- ---- whole numbers
 module _ (E U H M : ℕ) (e0 : 0 < E) (eU : U ≡ 4 * E) (eH : H ≡ 33554432 * E) (eM : M ≡ 2 * H) where
@@ -170,10 +171,10 @@ lower-product : (a b j : ℕ) → a * b < M * 2 ^ (24 + j) → a * b * 2 ≤ g a
 lower-product a b j h = le-of-mul-le-mul-right (le-trans (le-of-eq (mul-right-comm (a * b) 2 M)) (le-trans (n .1) (le-of-eq right))) (pow-pos 149)
   where
     low : a * b * M / (M * M) < 2 ^ (24 + j)
-    low = div-lt-iff-lt-mul MM .1 (lt-of-lt-of-le (mul-lt-mul-of-pos-right h (pow-pos 149)) (le-of-eq (ap (λ (z : ℕ). z * M) (mul-comm M (2 ^ (24 + j))) ∙ mul-assoc (2 ^ (24 + j)) M M)))
+    low = div-lt-iff-lt-mul MM-pos .1 (lt-of-lt-of-le (mul-lt-mul-of-pos-right h (pow-pos 149)) (le-of-eq (ap (λ (z : ℕ). z * M) (mul-comm M (2 ^ (24 + j))) ∙ mul-assoc (2 ^ (24 + j)) M M)))
 
     n : Near (g a b * (M * M)) (a * b * M) (M * M * 2 ^ j)
-    n = round-within binary32 (a * b) (M * M) j MM low
+    n = round-within binary32 (a * b) (M * M) j MM-pos low
 
     right : g a b * (M * M) * 2 + M * M * 2 ^ j ≡ (g a b * M * 2 + M * 2 ^ j) * M
     right =
@@ -185,10 +186,10 @@ module _ {x y : Float} {a b : ℕ} (p : Part x a) (q : Part y b) where
   A = grid binary32 (a + b) M
 
   sum-ok : T (finite (R (a + b) M))
-  sum-ok = bounded (a + b) M MMM (total a b (p .most) (q .most))
+  sum-ok = bounded (a + b) M M-pos (total a b (p .most) (q .most))
 
   product-ok : T (finite (R (a * b) (M * M)))
-  product-ok = bounded (a * b) (M * M) MM (fraction a b (p .most) (q .most))
+  product-ok = bounded (a * b) (M * M) MM-pos (fraction a b (p .most) (q .most))
 
   sum-near : A ≤ a + b + 4 * E
   sum-near = go (ltb (a + b) (2 * M)) (ltb-true (a + b) (2 * M)) (ltb-false (a + b) (2 * M))
@@ -203,7 +204,7 @@ module _ {x y : Float} {a b : ℕ} (p : Part x a) (q : Part y b) where
       go true h k = within (a + b) A E (near-whole (a + b) 126 (h refl))
       go false h k =
           slack (a + b) (4 * E) (2 * M) A
-          (round-at-most binary32 (a + b) M (2 * M) f2 MMM sum-ok (ofBits-fits binary32 0x4000_0000) two-counts (mul-le-mul-right M (total a b (p .most) (q .most))))
+          (round-at-most binary32 (a + b) M (2 * M) f2 M-pos sum-ok (ofBits-fits binary32 0x4000_0000) two-counts (mul-le-mul-right M (total a b (p .most) (q .most))))
           (k refl)
 
   sum-nearer : a + b < M → A ≤ a + b + 2 * E
@@ -223,18 +224,18 @@ module _ {x y : Float} {a b : ℕ} (p : Part x a) (q : Part y b) where
       go false h k =
           double (a * b) (g a b * M) (E * M * 4)
           (le-trans (mul-le-mul (p .most) (q .most))
-          (mul-le-mul-right M (round-at-least binary32 (a * b) (M * M) M f1 MM product-ok (ofBits-fits binary32 0x3f80_0000) one-counts (le-trans (le-of-eq (mul-comm M (M * M))) (mul-le-mul-right M (k refl))))))
+          (mul-le-mul-right M (round-at-least binary32 (a * b) (M * M) M f1 MM-pos product-ok (ofBits-fits binary32 0x3f80_0000) one-counts (le-trans (le-of-eq (mul-comm M (M * M))) (mul-le-mul-right M (k refl))))))
 
   by-one-is : a ≡ M → b ≤ g a b
   by-one-is e =
-      round-at-least binary32 (a * b) (M * M) b y MM product-ok (q .held) (q .is) (le-of-eq (sym (mul-assoc b M M) ∙ ap (λ (z : ℕ). z * M) (mul-comm b M ∙ ap (λ (z : ℕ). z * b) (sym e))))
+      round-at-least binary32 (a * b) (M * M) b y MM-pos product-ok (q .held) (q .is) (le-of-eq (sym (mul-assoc b M M) ∙ ap (λ (z : ℕ). z * M) (mul-comm b M ∙ ap (λ (z : ℕ). z * b) (sym e))))
 
   -- x + y - 1 is a number of the format, which x y is not below
   rest-at-least : M * H ≤ a * b → a < M → Fine E U H M a → Fine E U H M b → a + b ≤ g a b + M
   rest-at-least h l fa fb = by (from-half a fa (side (q .most) h)) (from-half b fb (side (p .most) (le-trans h (le-of-eq (mul-comm a b)))))
     where
       side : {m n : ℕ} → n ≤ M → M * H ≤ m * n → H ≤ m
-      side {m} {n} k h = le-of-mul-le-mul-right (le-trans (le-of-eq (mul-comm H M)) (le-trans h (mul-le-mul-left m k))) MMM
+      side {m} {n} k h = le-of-mul-le-mul-right (le-trans (le-of-eq (mul-comm H M)) (le-trans h (mul-le-mul-left m k))) M-pos
 
       from-half : (n : ℕ) → Fine E U H M n → H ≤ n → (k : ℕ) × (n ≡ k * U)
       from-half n (inl h) l = absurd (never H n (2 * E) (lit< tt) l h)
@@ -244,7 +245,7 @@ module _ {x y : Float} {a b : ℕ} (p : Part x a) (q : Part y b) where
       from-half n (inr m) l = m
 
       by : (k : ℕ) × (a ≡ k * U) → (k : ℕ) × (b ≡ k * U) → a + b ≤ g a b + M
-      by (k, e) (j, f) = back M (a + b) (g a b) (counts-le binary32 (R w M) (R (a * b) (M * M)) w (g a b) exact (round-counts binary32 (a * b) (M * M) product-ok) (round-mono binary32 w M (a * b) (M * M) MMM MM (le-trans (le-of-eq (sym (mul-assoc w M M))) (mul-le-mul-right M under))))
+      by (k, e) (j, f) = back M (a + b) (g a b) (counts-le binary32 (R w M) (R (a * b) (M * M)) w (g a b) exact (round-counts binary32 (a * b) (M * M) product-ok) (round-mono binary32 w M (a * b) (M * M) M-pos MM-pos (le-trans (le-of-eq (sym (mul-assoc w M M))) (mul-le-mul-right M under))))
         where
           w : ℕ
           w = a + b - M
@@ -264,7 +265,7 @@ module _ {x y : Float} {a b : ℕ} (p : Part x a) (q : Part y b) where
           split = (λ i. e i + f i - M) ∙ ap (λ (z : ℕ). z - 16777216 * U) (sym (add-mul k j U)) ∙ sym (mul-comm (k + j - 16777216) U ∙ mul-sub U (k + j) 16777216 ∙ (λ i. mul-comm U (k + j) i - mul-comm U 16777216 i))
 
           small : w < M
-          small = less M a b l (q .most) MMM
+          small = less M a b l (q .most) M-pos
             where
               less : (m a b : ℕ) → a < m → b ≤ m → 0 < m → a + b - m < m
               less m a b h k l = omega arith
@@ -273,7 +274,7 @@ module _ {x y : Float} {a b : ℕ} (p : Part x a) (q : Part y b) where
           few = lt-of-mul-lt-mul-right U (lt-of-le-of-lt (le-of-eq (sym split)) (lt-of-lt-of-le small (lit≤ tt)))
 
           exact : Counts binary32 (R w M) w
-          exact = round-exact binary32 false w M (k + j - 16777216) 125 MMM few (lt-of-le-of-lt (le-of-eq (sym split)) (lt-of-lt-of-le small (lit≤ tt))) (ap (λ (z : ℕ). z * M) split)
+          exact = round-exact binary32 false w M (k + j - 16777216) 125 M-pos few (lt-of-le-of-lt (le-of-eq (sym split)) (lt-of-lt-of-le small (lit≤ tt))) (ap (λ (z : ℕ). z * M) split)
 
   steps : Steps E U H M (lit< tt) refl refl refl a b A (g a b)
   steps =
@@ -319,7 +320,7 @@ screened x y a b p q =
     sum-counts = subst (λ (z : Float). Counts binary32 z t) (sym (add-counts binary32 x y a b (p .is) (q .is))) (round-counts binary32 (a + b) M (sum-ok p q))
 
     smaller : g a b ≤ t
-    smaller = le-trans (product-of p q .le-l) (round-at-least binary32 (a + b) M a x MMM (sum-ok p q) (p .held) (p .is) (mul-le-mul-right M (more a b)))
+    smaller = le-trans (product-of p q .le-l) (round-at-least binary32 (a + b) M a x M-pos (sum-ok p q) (p .held) (p .is) (mul-le-mul-right M (more a b)))
       where
         more : (a b : ℕ) → a ≤ a + b
         more a b = omega arith
@@ -328,10 +329,10 @@ screened x y a b p q =
     is = sub-counts binary32 (x ⊕ y) (x ⊗ y) t (g a b) sum-counts (times p q .is) smaller
 
     counts : Counts binary32 (R n M) (grid binary32 n M)
-    counts = round-counts binary32 n M (bounded n M MMM (le-trans few (lit≤ tt)))
+    counts = round-counts binary32 n M (bounded n M M-pos (le-trans few (lit≤ tt)))
 
     last : grid binary32 n M ≤ M
-    last = counts-le binary32 (R n M) f1 (grid binary32 n M) M counts one-counts (subst (λ (z : Float). T (le (R n M) z)) to-one (round-mono binary32 n M (M + 4 * E) M MMM MMM (mul-le-mul-right M few)))
+    last = counts-le binary32 (R n M) f1 (grid binary32 n M) M counts one-counts (subst (λ (z : Float). T (le (R n M) z)) to-one (round-mono binary32 n M (M + 4 * E) M M-pos M-pos (mul-le-mul-right M few)))
 
 pub screen-in : {x y : Float} → InUnit x → InUnit y → InUnit (x ⊕ y ⊖ x ⊗ y)
 screen-in {x} {y} p q = by (part (plain-in p) (unsigned p)) (part (plain-in q) (unsigned q))

@@ -1,11 +1,11 @@
 -- Every operator that W3C defines is W3C's: each colour of the compositor's pixel is W3C's formula with the steps of BlendDifferences.antt, for all alphas, and outside
 -- its inputs; the alpha is the union. The formula is proved once for each convention, over the blend function. Assumes nothing.
-use mathlib.Core.Path.{_≡_, refl, sym, ap, _∙_}
+use mathlib.Core.Path.{_≡_, refl, ap, _∙_}
 use mathlib.Core.Bool.{Bool, true, false, cond}
 use lib.Dec.{T}
 use lib.Ieee.{Float, binary32, fits, lt}
 use lib.Ieee.Fits.{mul-fits}
-use Rattle.float_steps.specs.Notation.{_⊕_, _⊖_, _⊗_, _⊘_, f0, f1}
+use Rattle.float_steps.specs.Notation.{_⊕_, _⊗_, _⊘_, f0}
 use Rattle.float_steps.specs.Order.{unitOf}
 use Rattle.ieee_laws.specs.Same.{plain, Same}
 use Rattle.ieee_laws.proofs.Zero.{add-same, mul-same, div-same}

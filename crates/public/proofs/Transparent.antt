@@ -3,12 +3,11 @@
 use mathlib.Core.Path.{_≡_, refl, sym, ap, _∙_}
 use mathlib.Core.Bool.{Bool, true, false, cond, _||_}
 use lib.Dec.{T}
-use lib.Ieee.{Float, binary32, ofBits, fits, lt, le, eq}
+use lib.Ieee.{Float, binary32, fits, lt, le}
 use lib.Ieee.Fits.{mul-fits}
 use lib.Ieee.Scale.{finite}
 use Rattle.float_steps.specs.Notation.{_⊕_, _⊖_, _⊗_, f0, f1}
 use Rattle.ieee_laws.specs.Same.{plain, Same, Zero}
-use Rattle.ieee_laws.proofs.Commute.{add-commutes}
 use Rattle.ieee_laws.proofs.Zero.{times-zero, zero-plus, mul-same}
 use Rattle.ieee_laws.proofs.Order.{eq-zeros}
 use Rattle.operators.specs.declared.CompositeOp.the-variants as O
@@ -16,7 +15,7 @@ use Rattle.pictures.specs.declared.Rgba.{Rgba}
 use Rattle.pixels.specs.declared.Params.{Params}
 use Rattle.pixels.specs.Channel.{overChannel}
 use Rattle.pixels.specs.Pixel.{pixelOf, onColours, withAlpha, overBy, keptWhereClear}
-use Rattle.public.specs.PorterDuff.{AoverB, BoverA, colour, coverage}
+use Rattle.public.specs.PorterDuff.{AoverB, BoverA, colour}
 use Rattle.public.specs.Operators.{Colour, at}
 use Rattle.public.proofs.Constants.{zero-is, by-one, by-zero, less-zero}
 use Rattle.public.proofs.Pixels.{on-alpha}

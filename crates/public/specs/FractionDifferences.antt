@@ -1,7 +1,7 @@
 -- Where the compositor departs from Porter and Duff: the form in which a result is stored (document 01), the steps that are taken otherwise, and the inputs at which
 -- that shows. docs/DIFFERENCES.md lists them, and Rows.antt has an input for each. Definitions only.
 use mathlib.Core.Path.{_≡_}
-use mathlib.Core.Bool.{Bool, true, false}
+use mathlib.Core.Bool.{true, false}
 use lib.Dec.{T}
 use lib.Ieee.{Float, lt, le, eq}
 use lib.Ieee.Scale.{finite}

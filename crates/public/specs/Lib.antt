@@ -1,7 +1,11 @@
+-- The documents
 pub mod PorterDuff
 pub mod Compositing
+pub mod NonSeparable
+-- Which operators of the compositor they define, and where their numbers lie
 pub mod Operators
+pub mod Range
+-- Where the compositor differs
 pub mod FractionDifferences
 pub mod BlendDifferences
 pub mod Rows
-pub mod Range

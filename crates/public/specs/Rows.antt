@@ -1,22 +1,26 @@
 -- An input for each difference of docs/DIFFERENCES.md: the words of a gray source s with alpha sa and of a gray destination d with alpha da, the word of the compositor's
 -- pixel there, and the document's. proofs/Rows.antt shows that each is so. Definitions only.
 use Prim.Native.Nat.{ℕ}
-use mathlib.Core.Bool.{Bool, true, false, not, _&&_}
+use mathlib.Core.Bool.{Bool, true, not, _&&_}
 use mathlib.Core.List.{List, [], _∷_, _++_}
 use lib.Dec.{eqb}
 use lib.Ieee.{Float, binary32, toBits}
-use Rattle.float_steps.specs.Notation.{_⊕_, _⊗_, _⊘_, lit}
+use Rattle.float_steps.specs.Notation.{_⊕_, _⊗_, _⊘_, lit, f1}
 use Rattle.float_steps.specs.Order.{unitOf}
 use Rattle.ieee_laws.specs.Same.{plain}
 use Rattle.operators.specs.declared.Convention.{Convention}
 use Rattle.operators.specs.declared.Convention.the-variants.{Premult, Divided, OnPremult, PremultOnly}
 use Rattle.operators.specs.declared.CompositeOp.{CompositeOp}
+use Rattle.operators.specs.declared.CompositeOp.the-variants as O
+use Rattle.blends.specs.Hsl.{rgbOf}
 use Rattle.operators.specs.Conventions.{convention}
 use Rattle.pictures.specs.declared.Rgba.{Rgba}
 use Rattle.pixels.specs.Pixel.{pixelOf, rgbaOf, unused}
-use Rattle.public.specs.PorterDuff.{Operator, clear, A, B, AoverB, BoverA, AinB, BinA, AoutB, BoutA, AatopB, BatopA, AxorB, AplusB, colour, coverage}
+use Rattle.public.specs.PorterDuff.{Operator, clear, A, B, AoverB, BoverA, AinB, BinA, AoutB, BoutA, AatopB, BatopA, AplusB, colour, coverage}
 use Rattle.public.specs.Compositing.{Mode, multiply, screen, overlay, darken, lighten, colorDodge, colorBurn, hardLight, softLight, difference, exclusion, co, αo}
 use Rattle.public.specs.Compositing as W
+use Rattle.public.specs.NonSeparable.{NonSeparable, hue, saturation, luminosity, color}
+use Rattle.public.specs.NonSeparable as N
 use Rattle.public.specs.Operators.{porterDuffOp, blendOp}
 use Rattle.public.specs.FractionDifferences.{Form, premultiplied, straight, divided, capped, form}
 use Rattle.public.specs.BlendDifferences.{union, uncovered, printed, spread, coBy, overUnion, storedBy}
@@ -120,10 +124,24 @@ whole nothingCovered m s sa d da = wholeBy (convention (blendOp m)) m s sa d da
 whole clampOfBlend m s sa d da = wholeBy (convention (blendOp m)) m s sa d da
 whole clampOfResult m s sa d da = wholeBy (convention (blendOp m)) m s sa d da
 
+-- ---- W3C's non-separable modes: the red of two opaque colours, (3/4, 1/2, 1/4) over (1/4, 1/2, 1)
+abbrev pub nonSeparableOp : NonSeparable → CompositeOp
+nonSeparableOp hue = O.Hue
+nonSeparableOp saturation = O.Saturate
+nonSeparableOp luminosity = O.Luminize
+nonSeparableOp color = O.Colorize
+
+abbrev pub hslHere : NonSeparable → Float
+hslHere n = pixelOf (nonSeparableOp n) unused (rgbaOf (lit 0x3f40_0000) (lit 0x3f00_0000) (lit 0x3e80_0000) f1) (rgbaOf (lit 0x3e80_0000) (lit 0x3f00_0000) f1 f1) .r
+
+abbrev pub hslThere : NonSeparable → Float
+hslThere n = N.B n (rgbOf (lit 0x3e80_0000) (lit 0x3f00_0000) f1) (rgbOf (lit 0x3f40_0000) (lit 0x3f00_0000) (lit 0x3e80_0000)) .r
+
 -- ---- a row: the words of s, sa, d and da, and those of the results: the compositor's, the one with the document's step, and for W3C its own in full
 pub data Row : Type 0 where
   fractions : Part → Operator → ℕ → ℕ → ℕ → ℕ → ℕ → ℕ → Row
   blends : Step → Mode → ℕ → ℕ → ℕ → ℕ → ℕ → ℕ → ℕ → Row
+  nonSeparable : NonSeparable → ℕ → ℕ → Row
 
 -- the word of a value, +0 for -0
 abbrev pub word : Float → ℕ
@@ -137,6 +155,7 @@ differs (blends k m s sa d da x y z) =
     eqb (word (stepHere k m (lit s) (lit sa) (lit d) (lit da))) x
     && (eqb (word (stepThere k m (lit s) (lit sa) (lit d) (lit da))) y
     && (eqb (word (whole k m (lit s) (lit sa) (lit d) (lit da))) z && (not (eqb x y) && not (eqb x z))))
+differs (nonSeparable n x y) = eqb (word (hslHere n)) x && (eqb (word (hslThere n)) y && not (eqb x y))
 
 abbrev pub all : List Row → Bool
 all [] = true
@@ -162,6 +181,15 @@ formRows =
     ∷ fractions storedForm B 0 0 0x3f00_0000 0x3f00_0000 0x3f00_0000 0x3e80_0000
     ∷ fractions storedForm BinA 0 0x3f00_0000 0x3f00_0000 0x3f80_0000 0x3f00_0000 0x3e80_0000
     ∷ fractions storedForm BoutA 0 0x3f00_0000 0x3f00_0000 0x3f80_0000 0x3f00_0000 0x3e80_0000
+    ∷ []
+
+-- document 01's own: Hue, Saturate, Luminize and Colorize use HSL
+abbrev pub hslRows : List Row
+hslRows =
+    nonSeparable hue 0x3f80_0000 0x3f48_a3d7
+    ∷ nonSeparable saturation 0x3ee0_0000 0x3ea7_40db
+    ∷ nonSeparable luminosity 0 0x3eb1_d89a
+    ∷ nonSeparable color 0x3f50_0000 0x3f2e_b853
     ∷ []
 
 -- a term with the fraction 0 is left out: it is no zero where it has an infinity or a NaN in it
@@ -348,4 +376,5 @@ rows =
     ++ (divisorRows
     ++ (emptyRows
     ++ (blendClampRows
-    ++ clampRows)))))))))))))))
+    ++ (hslRows
+    ++ clampRows))))))))))))))))

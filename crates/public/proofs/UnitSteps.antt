@@ -1,32 +1,29 @@
--- On numbers from 0 to 1 the sum of a mixture, three shares of colours up to 1, rounds to at most 1: the clamp of the result never acts on Multiply, Screen, Lighten and
--- Difference. The steps on binary32 are brought to the whole numbers of Mixture.antt: M = 2 ^ 149 smallest values are 1, H = 2 ^ 148, U = 2 ^ 125, E = 2 ^ 123. Assumes nothing.
+-- Steps on binary32 between 0 and 1 as whole numbers: a number is counted in the format's smallest value, of which M = 2 ^ 149 are 1 and H = 2 ^ 148 a half; below a half
+-- neighbours are 2 E = 2 ^ 124 apart at most, and below 1 they are U = 2 ^ 125. What a product, a complement and a sum may err is brought to the records of
+-- Mixture.antt. Assumes nothing.
 use mathlib.Core.Path.{_≡_, refl, sym, ap, _∙_, subst}
-use mathlib.Core.Logic.{_⊎_, inl, inr}
+use mathlib.Core.Logic.{inl, inr}
 use mathlib.Core.Bool.{Bool, true, false}
 use Prim.Native.Nat.{ℕ, zero, suc, _+_, _-_, _*_, _/_, _^_, _≤_, _<_}
-use native.Mathlib.Nat.{le-refl, le-trans, le-of-eq, le-of-lt, lt-of-lt-of-le, lt-of-le-of-lt, mul-comm, mul-assoc, mul-right-comm, one-mul, mul-one, mul-pos, mul-le-mul, mul-le-mul-left, mul-le-mul-right, mul-lt-mul-of-pos-right, le-of-mul-le-mul-right, div-lt-iff-lt-mul, mul-div-cancel, sub-add-cancel, zero-lt-suc, add-mul, sub-le}
+use native.Mathlib.Nat.{le-trans, le-of-eq, lt-of-lt-of-le, lt-of-le-of-lt, mul-comm, mul-assoc, mul-right-comm, one-mul, mul-pos, mul-le-mul, mul-le-mul-left, mul-le-mul-right, mul-lt-mul-of-pos-right, le-of-mul-le-mul-right, div-lt-iff-lt-mul, mul-div-cancel, sub-add-cancel, zero-lt-suc, add-mul, sub-le}
 use native.Mathlib.Omega.{arith}
 use lib.Dec.{T, ltb, lit≤, lit<}
 use lib.Pow.{pow-pos}
-use lib.Ieee.{Float, nan, inf, fin, binary32, ofBits, round, fits, le}
-use lib.Ieee.Fits.{round-fits, mul-fits, add-fits, sub-fits}
+use lib.Ieee.{Float, binary32, ofBits, round, fits, le}
+use lib.Ieee.Fits.{round-fits, mul-fits, sub-fits}
 use lib.Ieee.Bits.{ofBits-fits}
-use lib.Ieee.Exact.{HasValue, round-exact}
+use lib.Ieee.Exact.{round-exact}
 use lib.Ieee.Order.{round-mono}
 use lib.Ieee.Scale.{finite, grid}
 use borrow.Author.Tests.{ltb-true, ltb-false}
-use Rattle.float_steps.specs.Notation.{_⊕_, _⊖_, _⊗_, f0, f1, half}
-use Rattle.ieee_laws.specs.Same.{plain, Same}
-use Rattle.ieee_laws.specs.Size.{AtMost, Unsigned, Counts, Near}
-use Rattle.ieee_laws.proofs.Bound.{at-most-finite, round-bound, round-unsigned, plain-bound}
-use Rattle.ieee_laws.proofs.Zero.{plain-twice, add-same, mul-same, sub-same}
-use Rattle.ieee_laws.proofs.Order.{lt-same}
+use Rattle.float_steps.specs.Notation.{_⊖_, _⊗_, f1, half}
+use Rattle.ieee_laws.specs.Size.{Unsigned, Counts, Near}
+use Rattle.ieee_laws.proofs.Bound.{at-most-finite, round-bound, round-unsigned}
 use Rattle.ieee_laws.proofs.Clamp.{one-fits}
-use Rattle.ieee_laws.proofs.Units.{Counted, counted, grain, mul-counts, add-counts, sub-counts, round-counts, round-within, round-at-most, round-at-least, counts-le, one-count, count-at-most, at-most-count}
-use Rattle.public.specs.BlendDifferences.{spread, coBy}
+use Rattle.ieee_laws.proofs.Units.{Counted, counted, grain, mul-counts, sub-counts, round-counts, round-within, round-at-most, round-at-least, counts-le, one-count, count-at-most}
 use Rattle.public.specs.Range.{InUnit}
-use Rattle.public.proofs.InRange.{at-most-one, finite-of, unsigned, in-unit, in-unit-same}
-use Rattle.public.proofs.Mixture.{Fine, Product, Complement, Sum, mixture}
+use Rattle.public.proofs.InRange.{at-most-one, finite-of}
+use Rattle.public.proofs.Mixture.{Fine, Product, Complement, Sum}
 
 abbrev pub E : ℕ
 E = 2 ^ 123
@@ -67,8 +64,8 @@ fraction a b h k = le-trans (mul-le-mul h k) (two (M * M))
     two : (z : ℕ) → z ≤ 2 * z
     two z = omega arith
 
-pub MM : 0 < M * M
-MM = mul-pos (pow-pos 149) (pow-pos 149)
+pub MM-pos : 0 < M * M
+MM-pos = mul-pos (pow-pos 149) (pow-pos 149)
 
 -- a b / M below 2 ^ (24 + j) moves by half of 2 ^ j at most
 near-product : (a b j : ℕ) → a * b < M * 2 ^ (24 + j) → grid binary32 (a * b) (M * M) * M * 2 ≤ a * b * 2 + M * 2 ^ j
@@ -78,10 +75,10 @@ near-product a b j h = le-of-mul-le-mul-right (le-trans (le-of-eq left) (le-tran
     g = grid binary32 (a * b) (M * M)
 
     low : a * b * M / (M * M) < 2 ^ (24 + j)
-    low = div-lt-iff-lt-mul MM .1 (lt-of-lt-of-le (mul-lt-mul-of-pos-right h (pow-pos 149)) (le-of-eq (ap (λ (z : ℕ). z * M) (mul-comm M (2 ^ (24 + j))) ∙ mul-assoc (2 ^ (24 + j)) M M)))
+    low = div-lt-iff-lt-mul MM-pos .1 (lt-of-lt-of-le (mul-lt-mul-of-pos-right h (pow-pos 149)) (le-of-eq (ap (λ (z : ℕ). z * M) (mul-comm M (2 ^ (24 + j))) ∙ mul-assoc (2 ^ (24 + j)) M M)))
 
     n : Near (g * (M * M)) (a * b * M) (M * M * 2 ^ j)
-    n = round-within binary32 (a * b) (M * M) j MM low
+    n = round-within binary32 (a * b) (M * M) j MM-pos low
 
     left : g * M * 2 * M ≡ g * (M * M) * 2
     left = mul-right-comm (g * M) 2 M ∙ ap (λ (z : ℕ). z * 2) (mul-assoc g M M)
@@ -93,18 +90,18 @@ product : (x y : Float) (a b : ℕ) → T (fits binary32 x) → T (fits binary32
 product x y a b hx hy cx cy la lb =
     record {
       le-l = most-l;
-      le-r = round-at-most binary32 (a * b) (M * M) b y MM ok hy cy (le-trans (mul-le-mul-right M (mul-le-mul-right b la)) (le-of-eq (ap (λ (z : ℕ). z * M) (mul-comm M b) ∙ mul-assoc b M M)));
+      le-r = round-at-most binary32 (a * b) (M * M) b y MM-pos ok hy cy (le-trans (mul-le-mul-right M (mul-le-mul-right b la)) (le-of-eq (ap (λ (z : ℕ). z * M) (mul-comm M b) ∙ mul-assoc b M M)));
       whole = go (ltb (a * b) (M * M)) (ltb-true (a * b) (M * M)) (ltb-false (a * b) (M * M));
       half = λ h. near-product a b 124 h;
       quarter = λ h. near-product a b 123 (halved (a * b) (M * 2 ^ 147) h);
-      fine = fine-round (a * b) (M * M) MM (fraction a b la lb);
+      fine = fine-round (a * b) (M * M) MM-pos (fraction a b la lb);
     }
   where
     ok : T (finite (R (a * b) (M * M)))
-    ok = bounded (a * b) (M * M) MM (fraction a b la lb)
+    ok = bounded (a * b) (M * M) MM-pos (fraction a b la lb)
 
     most-l : grid binary32 (a * b) (M * M) ≤ a
-    most-l = round-at-most binary32 (a * b) (M * M) a x MM ok hx cx (le-trans (mul-le-mul-right M (mul-le-mul-left a lb)) (le-of-eq (mul-assoc a M M)))
+    most-l = round-at-most binary32 (a * b) (M * M) a x MM-pos ok hx cx (le-trans (mul-le-mul-right M (mul-le-mul-left a lb)) (le-of-eq (mul-assoc a M M)))
 
     halved : (n k : ℕ) → n * 2 < k * 2 → n < k
     halved n k h = omega arith
@@ -117,14 +114,14 @@ product x y a b hx hy cx cy la lb =
     go false h k = double (grid binary32 (a * b) (M * M) * M) (a * b) (E * M * 4) (le-trans (mul-le-mul-right M (le-trans most-l la)) (k refl))
 
 -- ---- fractions over M
-pub MMM : 0 < M
-MMM = pow-pos 149
+pub M-pos : 0 < M
+M-pos = pow-pos 149
 
 pub near-whole : (a j : ℕ) → a < 2 ^ (24 + j) → grid binary32 a M * 2 ≤ a * 2 + 2 ^ j
-near-whole a j h = le-of-mul-le-mul-right (le-trans (le-of-eq (mul-right-comm (grid binary32 a M) 2 M)) (le-trans (n .0) (le-of-eq right))) MMM
+near-whole a j h = le-of-mul-le-mul-right (le-trans (le-of-eq (mul-right-comm (grid binary32 a M) 2 M)) (le-trans (n .0) (le-of-eq right))) M-pos
   where
     n : Near (grid binary32 a M * M) (a * M) (M * 2 ^ j)
-    n = round-within binary32 a M j MMM (lt-of-le-of-lt (le-of-eq (mul-div-cancel a MMM)) h)
+    n = round-within binary32 a M j M-pos (lt-of-le-of-lt (le-of-eq (mul-div-cancel a M-pos)) h)
 
     right : a * M * 2 + M * 2 ^ j ≡ (a * 2 + 2 ^ j) * M
     right = (λ i. mul-right-comm a M 2 i + mul-comm M (2 ^ j) i) ∙ sym (add-mul (a * 2) (2 ^ j) M)
@@ -142,14 +139,14 @@ half-fits : T (fits binary32 half)
 half-fits = ofBits-fits binary32 0x3f00_0000
 
 -- ---- M - a
-complement : (a : ℕ) → a ≤ M → Fine E U H M a → Complement E U H M a (grid binary32 (M - a) M)
+pub complement : (a : ℕ) → a ≤ M → Fine E U H M a → Complement E U H M a (grid binary32 (M - a) M)
 complement a la fa =
     record {
       most = most;
       near = go (ltb 0 a) (ltb-true 0 a) (ltb-false 0 a);
       exact = λ h. ap (λ (z : ℕ). z + a) (exact h fa) ∙ sub-add-cancel la;
-      upper = λ h. round-at-least binary32 (M - a) M H half MMM ok half-fits half-counts (mul-le-mul-right M (more a h));
-      fine = fine-round (M - a) M MMM twice;
+      upper = λ h. round-at-least binary32 (M - a) M H half M-pos ok half-fits half-counts (mul-le-mul-right M (more a h));
+      fine = fine-round (M - a) M M-pos twice;
     }
   where
     less : (m a : ℕ) → m - a ≤ m
@@ -162,10 +159,10 @@ complement a la fa =
         dbl m = omega arith
 
     ok : T (finite (R (M - a) M))
-    ok = bounded (M - a) M MMM twice
+    ok = bounded (M - a) M M-pos twice
 
     most : grid binary32 (M - a) M ≤ M
-    most = round-at-most binary32 (M - a) M M f1 MMM ok one-fits one-counts (mul-le-mul-right M (less M a))
+    most = round-at-most binary32 (M - a) M M f1 M-pos ok one-fits one-counts (mul-le-mul-right M (less M a))
 
     more : (a : ℕ) → a < H → H ≤ M - a
     more a h = apart H M a h (lit≤ tt)
@@ -174,7 +171,7 @@ complement a la fa =
         apart h m a l k = omega arith
 
     go : (t : Bool) → (t ≡ true → 0 < a) → (t ≡ false → a ≤ 0) → grid binary32 (M - a) M + a ≤ M + 2 * E
-    go true h k = moved M a (grid binary32 (M - a) M) E la (near-whole (M - a) 125 (strict M a (h refl) MMM))
+    go true h k = moved M a (grid binary32 (M - a) M) E la (near-whole (M - a) 125 (strict M a (h refl) M-pos))
       where
         strict : (m a : ℕ) → 0 < a → 0 < m → m - a < m
         strict m a h k = omega arith
@@ -193,7 +190,7 @@ complement a la fa =
         never h a e p k l = omega arith
     exact h (inr (k, e)) =
         one-count binary32 (R (M - a) M) (grid binary32 (M - a) M) (M - a) (round-counts binary32 (M - a) M ok)
-        (round-exact binary32 false (M - a) M (16777216 - k) 125 MMM (fewer k (positive k e)) (lt-of-le-of-lt (le-of-eq (sym split)) (lt-of-le-of-lt (less M a) (lit< tt))) (ap (λ (z : ℕ). z * M) split))
+        (round-exact binary32 false (M - a) M (16777216 - k) 125 M-pos (fewer k (positive k e)) (lt-of-le-of-lt (le-of-eq (sym split)) (lt-of-le-of-lt (less M a) (lit< tt))) (ap (λ (z : ℕ). z * M) split))
       where
         fewer : (k : ℕ) → 0 < k → 16777216 - k < 16777216
         fewer k h = omega arith
@@ -215,17 +212,17 @@ total a b h k = both M a b h k
     both : (m a b : ℕ) → a ≤ m → b ≤ m → a + b ≤ 2 * m
     both m a b h k = omega arith
 
-sum : (a b : ℕ) → a ≤ M → b ≤ M → Sum E U H M a b (grid binary32 (a + b) M)
+pub sum : (a b : ℕ) → a ≤ M → b ≤ M → Sum E U H M a b (grid binary32 (a + b) M)
 sum a b la lb =
     record {
       whole = λ h. go (ltb (a + b) M) (ltb-true (a + b) M) (ltb-false (a + b) M) h;
       half = λ h. within (a + b) (grid binary32 (a + b) M) E (near-whole (a + b) 124 h);
       least = λ h. counts-le binary32 (R (a + b) M) half (grid binary32 (a + b) M) H (round-counts binary32 (a + b) M ok) half-counts
-          (subst (λ (z : Float). T (le (R (a + b) M) z)) to-half (round-mono binary32 (a + b) M (H + 2 * E) M MMM MMM (mul-le-mul-right M h)));
+          (subst (λ (z : Float). T (le (R (a + b) M) z)) to-half (round-mono binary32 (a + b) M (H + 2 * E) M M-pos M-pos (mul-le-mul-right M h)));
     }
   where
     ok : T (finite (R (a + b) M))
-    ok = bounded (a + b) M MMM (total a b la lb)
+    ok = bounded (a + b) M M-pos (total a b la lb)
 
     to-half : R (H + 2 * E) M ≡ half
     to-half = unfold round ofBits in refl
@@ -238,7 +235,7 @@ sum a b la lb =
 
     go : (t : Bool) → (t ≡ true → a + b < M) → (t ≡ false → M ≤ a + b) → a + b ≤ M → grid binary32 (a + b) M ≤ a + b + 2 * E
     go true h k l = within-two (a + b) (grid binary32 (a + b) M) E (near-whole (a + b) 125 (h refl))
-    go false h k l = slack (a + b) (2 * E) (le-trans (round-at-most binary32 (a + b) M M f1 MMM ok one-fits one-counts (mul-le-mul-right M l)) (k refl))
+    go false h k l = slack (a + b) (2 * E) (le-trans (round-at-most binary32 (a + b) M M f1 M-pos ok one-fits one-counts (mul-le-mul-right M l)) (k refl))
       where
         slack : (n e : ℕ) {g : ℕ} → g ≤ n → g ≤ n + e
         slack n e h = omega arith
@@ -266,107 +263,20 @@ times {x} {y} {a} {b} p q =
     let r = product-of p q in
     record {
       held = mul-fits binary32 x y;
-      is = subst (λ (z : Float). Counts binary32 z (g a b)) (sym (mul-counts binary32 x y a b (p .is) (q .is))) (round-counts binary32 (a * b) (M * M) (bounded (a * b) (M * M) MM (fraction a b (p .most) (q .most))));
+      is = subst (λ (z : Float). Counts binary32 z (g a b)) (sym (mul-counts binary32 x y a b (p .is) (q .is))) (round-counts binary32 (a * b) (M * M) (bounded (a * b) (M * M) MM-pos (fraction a b (p .most) (q .most))));
       most = le-trans (r .le-l) (p .most);
       fine = r .fine;
     }
 
-less : {x : Float} {a : ℕ} → Part x a → Part (f1 ⊖ x) (grid binary32 (M - a) M)
+pub less : {x : Float} {a : ℕ} → Part x a → Part (f1 ⊖ x) (grid binary32 (M - a) M)
 less {x} {a} p =
     let c = complement a (p .most) (p .fine) in
     record {
       held = sub-fits binary32 f1 x;
-      is = subst (λ (z : Float). Counts binary32 z (grid binary32 (M - a) M)) (sym (sub-counts binary32 f1 x M a one-counts (p .is) (p .most))) (round-counts binary32 (M - a) M (bounded (M - a) M MMM (le-trans (sub-le M a) (twice M))));
+      is = subst (λ (z : Float). Counts binary32 z (grid binary32 (M - a) M)) (sym (sub-counts binary32 f1 x M a one-counts (p .is) (p .most))) (round-counts binary32 (M - a) M (bounded (M - a) M M-pos (le-trans (sub-le M a) (twice M))));
       most = c .most;
       fine = c .fine;
     }
   where
     twice : (m : ℕ) → m ≤ 2 * m
     twice m = omega arith
-
--- ---- the mixture
-pub to-one : R (M + 4 * E) M ≡ f1
-unfolding round ofBits
-to-one = refl
-
--- v, s and d are colours, x and y alphas
-mixed : (x y v s d : Float) (a b c e h : ℕ) → Part x a → Part y b → Part v c → Part s e → Part d h
-    → AtMost 1 (x ⊗ y ⊗ v ⊕ (x ⊗ (f1 ⊖ y) ⊗ s ⊕ y ⊗ (f1 ⊖ x) ⊗ d)) × Unsigned (x ⊗ y ⊗ v ⊕ (x ⊗ (f1 ⊖ y) ⊗ s ⊕ y ⊗ (f1 ⊖ x) ⊗ d))
-mixed x y v s d a b c e h px py pv ps pd =
-    (subst (AtMost 1) (sym is) (at-most-count binary32 1 (R (p' + t) M) (grid binary32 (p' + t) M) counts (le-trans last (le-of-eq (sym (one-mul M))))), subst Unsigned (sym is) (round-unsigned binary32 (p' + t) M))
-  where
-    X : ℕ
-    X = grid binary32 (M - a) M
-
-    Y : ℕ
-    Y = grid binary32 (M - b) M
-
-    p' : ℕ
-    p' = g (g a b) c
-
-    q' : ℕ
-    q' = g (g a Y) e
-
-    r' : ℕ
-    r' = g (g b X) h
-
-    t : ℕ
-    t = grid binary32 (q' + r') M
-
-    qpart : Part (x ⊗ (f1 ⊖ y) ⊗ s) q'
-    qpart = times (times px (less py)) ps
-
-    rpart : Part (y ⊗ (f1 ⊖ x) ⊗ d) r'
-    rpart = times (times py (less px)) pd
-
-    bound : g a b + t ≤ M + 4 * E
-    bound =
-        mixture E U H M (lit< tt) refl refl refl a b X Y (g a b) (g a Y) (g b X) q' r' t (px .most) (py .most) (px .fine) (py .fine) (complement a (px .most) (px .fine)) (complement b (py .most) (py .fine))
-        (product-of px py) (product-of px (less py)) (product-of py (less px)) (product-of (times px (less py)) ps .le-l) (product-of (times py (less px)) pd .le-l) (sum q' r' (qpart .most) (rpart .most))
-
-    all : p' + t ≤ M + 4 * E
-    all = le-trans (add-le p' (g a b) t (product-of (times px py) pv .le-l)) bound
-      where
-        add-le : (m n k : ℕ) → m ≤ n → m + k ≤ n + k
-        add-le m n k h = omega arith
-
-    sum-counts : Counts binary32 (x ⊗ (f1 ⊖ y) ⊗ s ⊕ y ⊗ (f1 ⊖ x) ⊗ d) t
-    sum-counts = subst (λ (z : Float). Counts binary32 z t) (sym (add-counts binary32 (x ⊗ (f1 ⊖ y) ⊗ s) (y ⊗ (f1 ⊖ x) ⊗ d) q' r' (qpart .is) (rpart .is))) (round-counts binary32 (q' + r') M (bounded (q' + r') M MMM (total q' r' (qpart .most) (rpart .most))))
-
-    is : x ⊗ y ⊗ v ⊕ (x ⊗ (f1 ⊖ y) ⊗ s ⊕ y ⊗ (f1 ⊖ x) ⊗ d) ≡ R (p' + t) M
-    is = add-counts binary32 (x ⊗ y ⊗ v) (x ⊗ (f1 ⊖ y) ⊗ s ⊕ y ⊗ (f1 ⊖ x) ⊗ d) p' t (times (times px py) pv .is) sum-counts
-
-    counts : Counts binary32 (R (p' + t) M) (grid binary32 (p' + t) M)
-    counts = round-counts binary32 (p' + t) M (bounded (p' + t) M MMM (le-trans all (lit≤ tt)))
-
-    last : grid binary32 (p' + t) M ≤ M
-    last = counts-le binary32 (R (p' + t) M) f1 (grid binary32 (p' + t) M) M counts one-counts (subst (λ (z : Float). T (le (R (p' + t) M) z)) to-one (round-mono binary32 (p' + t) M (M + 4 * E) M MMM MMM (mul-le-mul-right M all)))
-
--- ---- with either zero
-pub plain-in : {x : Float} → InUnit x → InUnit (plain x)
-plain-in {x} p = in-unit (plain x) (plain-fits x (p .held)) (lt-same (plain x) x f0 f0 (plain-twice x) refl ∙ p .low) (plain-bound 1 x (at-most-one p))
-  where
-    plain-fits : (x : Float) → T (fits binary32 x) → T (fits binary32 (plain x))
-    plain-fits nan h = h
-    plain-fits (inf s) h = h
-    plain-fits (fin s (suc m) e) h = h
-    plain-fits (fin s zero e) h = unfold fits in tt
-
-pub mixed-in : {v s sa d da : Float} → InUnit v → InUnit s → InUnit sa → InUnit d → InUnit da → InUnit (coBy spread v s sa d da)
-mixed-in {v} {s} {sa} {d} {da} pv ps psa pd pda = by (of psa) (of pda) (of pv) (of ps) (of pd)
-  where
-    of : {x : Float} → InUnit x → (n : ℕ) × Part (plain x) n
-    of p = part (plain-in p) (unsigned p)
-
-    clear : (x : Float) → Same x (plain x)
-    clear x = sym (plain-twice x)
-
-    same : Same (coBy spread v s sa d da) (coBy spread (plain v) (plain s) (plain sa) (plain d) (plain da))
-    same =
-        add-same binary32 _ _ _ _ (mul-same binary32 _ _ _ _ (mul-same binary32 _ _ _ _ (clear sa) (clear da)) (clear v))
-        (add-same binary32 _ _ _ _ (mul-same binary32 _ _ _ _ (mul-same binary32 _ _ _ _ (clear sa) (sub-same binary32 _ _ _ _ refl (clear da))) (clear s)) (mul-same binary32 _ _ _ _ (mul-same binary32 _ _ _ _ (clear da) (sub-same binary32 _ _ _ _ refl (clear sa))) (clear d)))
-
-    by : (n : ℕ) × Part (plain sa) n → (n : ℕ) × Part (plain da) n → (n : ℕ) × Part (plain v) n → (n : ℕ) × Part (plain s) n → (n : ℕ) × Part (plain d) n → InUnit (coBy spread v s sa d da)
-    by (a, pa) (b, pb) (c, pc) (e, pe) (h, ph) =
-        let r = mixed (plain sa) (plain da) (plain v) (plain s) (plain d) a b c e h pa pb pc pe ph in
-        in-unit-same (coBy spread v s sa d da) (coBy spread (plain v) (plain s) (plain sa) (plain d) (plain da)) (add-fits binary32 (sa ⊗ da ⊗ v) _) same (r .1) (r .0)
