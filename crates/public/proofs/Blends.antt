@@ -105,15 +105,42 @@ exclusion-is s d p q h k =
     let e : f2 ⊗ s ⊗ d ≡ f2 ⊗ d ⊗ s = ap (λ (w : Float). w ⊗ s ⊗ d) two-is ∙ twice-moves binary32 s d p q h k ∙ sym (ap (λ (w : Float). w ⊗ d ⊗ s) two-is) in
     λ i. add-commutes binary32 s d i ⊖ e i
 
+-- the blends that are W3C's to a zero's sign, for all values
+abbrev pub alike : Mode → Bool
+alike multiply = true
+alike screen = true
+alike overlay = false
+alike darken = false
+alike lighten = false
+alike colorDodge = false
+alike colorBurn = false
+alike hardLight = false
+alike softLight = true
+alike difference = true
+alike exclusion = false
+
+pub blend-exact : (m : Mode) → T (alike m) → (a : Params) (s d : Float) → blendOf (blendOp m) a s d ≡ B m d s
+blend-exact multiply w a s d = mul-commutes binary32 s d
+blend-exact screen w a s d = λ i. add-commutes binary32 s d i ⊖ mul-commutes binary32 s d i
+blend-exact overlay w a s d = absurd w
+blend-exact darken w a s d = absurd w
+blend-exact lighten w a s d = absurd w
+blend-exact colorDodge w a s d = absurd w
+blend-exact colorBurn w a s d = absurd w
+blend-exact hardLight w a s d = absurd w
+blend-exact softLight w a s d = soft-light s d
+blend-exact difference w a s d = abs-sub s d
+blend-exact exclusion w a s d = absurd w
+
 pub blend-is : (m : Mode) (a : Params) (s d : Float) → T (fits binary32 s) → T (fits binary32 d) → BlendOutside m s d → Same (blendOf (blendOp m) a s d) (B m d s)
-blend-is multiply a s d p q x = ap plain (mul-commutes binary32 s d)
-blend-is screen a s d p q x = λ i. plain (add-commutes binary32 s d i ⊖ mul-commutes binary32 s d i)
+blend-is multiply a s d p q x = ap plain (blend-exact multiply tt a s d)
+blend-is screen a s d p q x = ap plain (blend-exact screen tt a s d)
 blend-is overlay a s d p q x = hard-light d s q p x
 blend-is darken a s d p q x = smaller-commutes binary32 s d p q
 blend-is lighten a s d p q x = larger-commutes binary32 s d p q
 blend-is colorDodge a s d p q x = color-dodge s d (x .0) (x .1)
 blend-is colorBurn a s d p q x = color-burn s d (x .0) (x .1) (x .2)
 blend-is hardLight a s d p q x = hard-light s d p q x
-blend-is softLight a s d p q x = ap plain (soft-light s d)
-blend-is difference a s d p q x = ap plain (abs-sub s d)
+blend-is softLight a s d p q x = ap plain (blend-exact softLight tt a s d)
+blend-is difference a s d p q x = ap plain (blend-exact difference tt a s d)
 blend-is exclusion a s d p q x = ap plain (exclusion-is s d p q (x .0) (x .1))

@@ -17,7 +17,7 @@ use Rattle.pixels.specs.Pixel.{pixelOf}
 use Rattle.public.specs.Compositing.{multiply, screen, overlay, darken, lighten, colorDodge, colorBurn, hardLight, softLight, difference, exclusion, B}
 use Rattle.public.specs.Operators.{Colour, at, Held}
 use Rattle.public.specs.BlendDifferences.{union, uncovered, spread, coBy, overUnion, infinite}
-use Rattle.public.proofs.Stored.{stored-is, union-alpha}
+use Rattle.public.proofs.Stored.{stored-is, stored-exact, union-alpha}
 
 module _ (p : Params) (s d : Rgba) (hs : Held s) (hd : Held d) (c : Colour) where
   -- the pixel's colour and alpha
@@ -41,17 +41,17 @@ module _ (p : Params) (s d : Rgba) (hs : Held s) (hd : Held d) (c : Colour) wher
   αu = union (s .a) (d .a)
 
   -- ---- stored as co is, B and the result clamped
-  pub multiply-is : Same (C O.Multiply) (unitOf (mixed (unitOf (B multiply Cb Cs)))) × (α O.Multiply ≡ αu)
-  multiply-is = (stored-is p s d multiply hs hd c tt, union-alpha p s d multiply)
+  pub multiply-is : (C O.Multiply ≡ unitOf (mixed (unitOf (B multiply Cb Cs)))) × (α O.Multiply ≡ αu)
+  multiply-is = (stored-exact p s d multiply tt c, union-alpha p s d multiply)
 
-  pub screen-is : Same (C O.Screen) (unitOf (mixed (unitOf (B screen Cb Cs)))) × (α O.Screen ≡ αu)
-  screen-is = (stored-is p s d screen hs hd c tt, union-alpha p s d screen)
+  pub screen-is : (C O.Screen ≡ unitOf (mixed (unitOf (B screen Cb Cs)))) × (α O.Screen ≡ αu)
+  screen-is = (stored-exact p s d screen tt c, union-alpha p s d screen)
 
   pub lighten-is : Same (C O.Lighten) (unitOf (mixed (unitOf (B lighten Cb Cs)))) × (α O.Lighten ≡ αu)
   lighten-is = (stored-is p s d lighten hs hd c tt, union-alpha p s d lighten)
 
-  pub difference-is : Same (C O.Difference) (unitOf (mixed (unitOf (B difference Cb Cs)))) × (α O.Difference ≡ αu)
-  difference-is = (stored-is p s d difference hs hd c tt, union-alpha p s d difference)
+  pub difference-is : (C O.Difference ≡ unitOf (mixed (unitOf (B difference Cb Cs)))) × (α O.Difference ≡ αu)
+  difference-is = (stored-exact p s d difference tt c, union-alpha p s d difference)
 
   -- ---- stored as co over the union alpha, the result clamped
   pub overlay-is : (eq Cb half && infinite Cs ≡ false → Same (C O.Overlay) (unitOf (overUnion (mixed (B overlay Cb Cs)) αu))) × (α O.Overlay ≡ αu)
@@ -60,8 +60,8 @@ module _ (p : Params) (s d : Rgba) (hs : Held s) (hd : Held d) (c : Colour) wher
   pub hard-light-is : (eq Cs half && infinite Cb ≡ false → Same (C O.HardLight) (unitOf (overUnion (mixed (B hardLight Cb Cs)) αu))) × (α O.HardLight ≡ αu)
   hard-light-is = (stored-is p s d hardLight hs hd c, union-alpha p s d hardLight)
 
-  pub soft-light-is : Same (C O.SoftLight) (unitOf (overUnion (mixed (B softLight Cb Cs)) αu)) × (α O.SoftLight ≡ αu)
-  soft-light-is = (stored-is p s d softLight hs hd c tt, union-alpha p s d softLight)
+  pub soft-light-is : (C O.SoftLight ≡ unitOf (overUnion (mixed (B softLight Cb Cs)) αu)) × (α O.SoftLight ≡ αu)
+  soft-light-is = (stored-exact p s d softLight tt c, union-alpha p s d softLight)
 
   pub color-dodge-is : ((lt Cb f0 ≡ false) × (lt f1 Cs ≡ false) → Same (C O.ColorDodge) (unitOf (overUnion (mixed (B colorDodge Cb Cs)) αu))) × (α O.ColorDodge ≡ αu)
   color-dodge-is = (stored-is p s d colorDodge hs hd c, union-alpha p s d colorDodge)

@@ -160,9 +160,9 @@ module _ (p : Params) (s d : Rgba) (hs : Held s) (hd : Held d) where
     colour-is BoutA h =
         let a = da ⊗ (f1 ⊖ sa) in
         cleared-colour c a d (mul-fits binary32 da (f1 ⊖ sa)) (h .1) ∙ second (S ⊗ sa ⊗ f0) (D ⊗ a) (mul-fits binary32 D a) (by-zero (S ⊗ sa) (h .0))
-    colour-is AatopB h = ap plain (on-colours c (λ x y. atopChannel x y sa da) s d da)
-    colour-is BatopA h = ap plain (on-colours c (λ x y. atopChannel y x da sa) s d sa ∙ add-commutes binary32 (D ⊗ da ⊗ sa) (S ⊗ sa ⊗ (f1 ⊖ da)))
-    colour-is AxorB h = ap plain (on-colours c (λ x y. xorChannel x y sa da) s d (sa ⊗ (f1 ⊖ da) ⊕ da ⊗ (f1 ⊖ sa)))
+    colour-is AatopB h = on-colours c (λ x y. atopChannel x y sa da) s d da
+    colour-is BatopA h = on-colours c (λ x y. atopChannel y x da sa) s d sa ∙ add-commutes binary32 (D ⊗ da ⊗ sa) (S ⊗ sa ⊗ (f1 ⊖ da))
+    colour-is AxorB h = on-colours c (λ x y. xorChannel x y sa da) s d (sa ⊗ (f1 ⊖ da) ⊕ da ⊗ (f1 ⊖ sa))
     colour-is AplusB h =
         on-colours c (λ x y. plusChannel x y sa da) s d (smallerOf (sa ⊕ da) f1)
         ∙ (λ i. smallerOf (sym (by-one (S ⊗ sa) (mul-fits binary32 S sa)) i ⊕ sym (by-one (D ⊗ da) (mul-fits binary32 D da)) i) f1)

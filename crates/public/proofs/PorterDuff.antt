@@ -1,6 +1,6 @@
 -- The thirteen operators that Porter and Duff define, one theorem each: first a colour, then the alpha. s is the source's pixel, d the destination's, and c any of the
 -- three colours. A hypothesis excludes the inputs of a row of docs/DIFFERENCES.md, and nothing else. Each is an instance of Fractions.antt. Assumes nothing.
-use mathlib.Core.Path.{_≡_, refl}
+use mathlib.Core.Path.{_≡_}
 use mathlib.Core.Bool.{false}
 use lib.Dec.{T}
 use lib.Ieee.{Float, lt, le}
@@ -57,14 +57,14 @@ module _ (p : Params) (s d : Rgba) (hs : Held s) (hd : Held d) (c : Colour) wher
   out-is = (colour-is p s d hs hd c AoutB, alpha-is p s d hs hd AoutB)
 
   -- with the destination's alpha kept
-  pub atop-is : Same (C O.Atop) (P AatopB) × (α O.Atop ≡ da)
-  atop-is = (colour-is p s d hs hd c AatopB tt, refl)
+  pub atop-is : (C O.Atop ≡ P AatopB) × (α O.Atop ≡ da)
+  atop-is = (colour-is p s d hs hd c AatopB tt, alpha-is p s d hs hd AatopB tt)
 
   -- with the source's alpha kept
-  pub dst-atop-is : Same (C O.DstAtop) (P BatopA) × (α O.DstAtop ≡ sa)
-  dst-atop-is = (colour-is p s d hs hd c BatopA tt, refl)
+  pub dst-atop-is : (C O.DstAtop ≡ P BatopA) × (α O.DstAtop ≡ sa)
+  dst-atop-is = (colour-is p s d hs hd c BatopA tt, alpha-is p s d hs hd BatopA tt)
 
-  pub xor-is : Same (C O.Xor) (P AxorB) × Same (α O.Xor) (Q AxorB)
+  pub xor-is : (C O.Xor ≡ P AxorB) × (α O.Xor ≡ Q AxorB)
   xor-is = (colour-is p s d hs hd c AxorB tt, alpha-is p s d hs hd AxorB tt)
 
   -- cut at 1

@@ -21,7 +21,7 @@ use Rattle.pixels.specs.Pixel.{pixelOf, mathematicalOf}
 use Rattle.public.specs.Compositing.{Mode, multiply, screen, overlay, darken, lighten, colorDodge, colorBurn, hardLight, softLight, difference, exclusion, B}
 use Rattle.public.specs.Operators.{Colour, at, Held, blendOp}
 use Rattle.public.specs.BlendDifferences.{union, uncovered, spread, coBy, overUnion, blended, storedBy, StoredOutside}
-use Rattle.public.proofs.Blends.{blend-is}
+use Rattle.public.proofs.Blends.{blend-is, alike, blend-exact}
 use Rattle.public.proofs.Pixels.{held-at, on-colours}
 
 -- ---- one colour under a convention
@@ -70,6 +70,13 @@ module _ (s sa d da : Float) where
       let y = B m (d ⊗ da) (s ⊗ sa) in
       unit-same (unitOf x) (unitOf y) (unit-same x y e)
 
+  -- and one that is B
+  exact-by-convention : (k : Convention) (f : Float → Float → Float) (m : Mode) → f (blended k s sa) (blended k d da) ≡ B m (blended k d da) (blended k s sa) → channelOf k f s d sa da ≡ storedBy spread k m s sa d da
+  exact-by-convention Premult f m e = ap (λ (v : Float). unitOf (coBy spread (unitOf v) s sa d da)) e
+  exact-by-convention Divided f m e = ap unitOf (over-union-is (coBy spread (f s d) s sa d da) (union sa da) ∙ ap (λ (v : Float). overUnion (coBy spread v s sa d da) (union sa da)) e)
+  exact-by-convention OnPremult f m e = ap (λ (v : Float). unitOf (unitOf v ⊕ uncovered s sa d da)) e
+  exact-by-convention PremultOnly f m e = ap (λ (v : Float). unitOf (unitOf v)) e
+
 -- ---- the pixel
 module _ (p : Params) (s d : Rgba) where
   pub union-alpha : (m : Mode) → pixelOf (blendOp m) p s d .a ≡ union (s .a) (d .a)
@@ -108,3 +115,8 @@ module _ (p : Params) (s d : Rgba) where
       ap plain (painted c m)
       ∙ by-convention (at c s) (s .a) (at c d) (d .a) k (blendOf (blendOp m) p) m
       (blend-is m p (blended k (at c s) (s .a)) (blended k (at c d) (d .a)) (blended-fits k (at c s) (s .a) (held-at c s hs)) (blended-fits k (at c d) (d .a) (held-at c d hd)) x)
+
+  pub stored-exact : (m : Mode) → T (alike m) → (c : Colour) → at c (pixelOf (blendOp m) p s d) ≡ storedBy spread (convention (blendOp m)) m (at c s) (s .a) (at c d) (d .a)
+  stored-exact m w c =
+      let k = convention (blendOp m) in
+      painted c m ∙ exact-by-convention (at c s) (s .a) (at c d) (d .a) k (blendOf (blendOp m) p) m (blend-exact m w p (blended k (at c s) (s .a)) (blended k (at c d) (d .a)))

@@ -10,9 +10,9 @@ use Rattle.float_steps.specs.Order.{smallerOf}
 use Rattle.ieee_laws.specs.Same.{Same}
 use Rattle.public.specs.PorterDuff.{Operator, clear, A, B, AoverB, BoverA, AinB, BinA, AoutB, BoutA, AatopB, BatopA, AxorB, AplusB, fraction, FA, FB, coverage}
 
--- ---- the form: multiplied by alpha as in the paper, straight, divided by alpha; and Plus is cut at 1
+-- ---- the form: multiplied by alpha as in the paper, to a zero's sign (exact) or but for it; straight; divided by alpha; and Plus is cut at 1
 pub data Form : Type 0 where
-  premultiplied straight divided capped : Form
+  exact premultiplied straight divided capped : Form
 
 abbrev pub form : Operator → Form
 form clear = premultiplied
@@ -24,19 +24,21 @@ form AinB = premultiplied
 form BinA = straight
 form AoutB = premultiplied
 form BoutA = straight
-form AatopB = premultiplied
-form BatopA = premultiplied
-form AxorB = premultiplied
+form AatopB = exact
+form BatopA = exact
+form AxorB = exact
 form AplusB = capped
 
 -- a colour c and an alpha a, as stored in a form, are the paper's colour p with the paper's coverage q
 abbrev pub IsColour : Form → Float → Float → Float → Float → Type 0
+IsColour exact c a p q = c ≡ p
 IsColour premultiplied c a p q = Same c p
 IsColour straight c a p q = Same (c ⊗ a) p
 IsColour divided c a p q = c ≡ p ⊘ q
 IsColour capped c a p q = c ≡ smallerOf p f1
 
 abbrev pub IsAlpha : Form → Float → Float → Type 0
+IsAlpha exact a q = a ≡ q
 IsAlpha premultiplied a q = Same a q
 IsAlpha straight a q = Same a q
 IsAlpha divided a q = Same a q

@@ -22,7 +22,7 @@ use Rattle.public.specs.Compositing as W
 use Rattle.public.specs.NonSeparable.{NonSeparable, hue, saturation, luminosity, color}
 use Rattle.public.specs.NonSeparable as N
 use Rattle.public.specs.Operators.{porterDuffOp, blendOp}
-use Rattle.public.specs.FractionDifferences.{Form, premultiplied, straight, divided, capped, form}
+use Rattle.public.specs.FractionDifferences.{Form, exact, premultiplied, straight, divided, capped, form}
 use Rattle.public.specs.BlendDifferences.{union, uncovered, printed, spread, coBy, overUnion, storedBy}
 
 abbrev pub pixelAt : CompositeOp → Float → Float → Float → Float → Rgba
@@ -34,12 +34,14 @@ pub data Part : Type 0 where
 
 -- a straight colour is shown multiplied by its alpha, and the paper's colour divided by its coverage where ours is
 abbrev pub shown : Form → Float → Float → Float
+shown exact c a = c
 shown premultiplied c a = c
 shown straight c a = c ⊗ a
 shown divided c a = c
 shown capped c a = c
 
 abbrev pub meant : Form → Float → Float → Float
+meant exact p q = p
 meant premultiplied p q = p
 meant straight p q = p
 meant divided p q = p ⊘ q
