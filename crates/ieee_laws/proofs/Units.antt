@@ -11,12 +11,13 @@ use lib.Pow.{pow-add, pow-pos, pow-mono}
 use lib.Ieee.{Float, nan, inf, fin, Format, prec, low, up, down, round, sum, add, sub, mul, neg, fits, le}
 use lib.Ieee.Digits.{back}
 use lib.Ieee.Fits.{down-pos}
+use lib.Ieee.Exact.{HasValue}
 use lib.Ieee.Order.{drop, round-mono}
 use lib.Ieee.Scale.{finite, grid, round-same, round-val, round-under}
 use borrow.Author.Tests.{le-ltb}
-use Rattle.ieee_laws.specs.Size.{AtMost, Unsigned, Counts, Near}
+use Rattle.ieee_laws.specs.Size.{two, AtMost, Unsigned, doubles, Counts, Near}
 use Rattle.ieee_laws.proofs.Number.{held, lift, lift-is, round-own}
-use Rattle.ieee_laws.proofs.Twice.{values}
+use Rattle.ieee_laws.proofs.Twice.{values, twice-value}
 use Rattle.ieee_laws.proofs.Bound.{at-most}
 use Rattle.ieee_laws.proofs.Half.{round-near, unit-at-most}
 
@@ -178,3 +179,23 @@ at-most-count f N nan a v h = absurd v
 at-most-count f N (inf s) a v h = absurd v
 at-most-count f N (fin s m e) a v h =
     le-of-mul-le-mul-right (le-trans (le-of-eq (v .1)) (le-trans (mul-le-mul-right (down e) h) (le-of-eq (mul-right-comm N (2 ^ low f) (down e))))) (pow-pos (low f))
+
+-- twice a value counts twice as much
+pub count-twice : (f : Format) (x : Float) (a : ℕ) → T (fits f x) → T (doubles f x) → Counts f x a → Counts f (mul f two x) (a * 2)
+count-twice f nan a h d v = absurd v
+count-twice f (inf s) a h d v = absurd v
+count-twice f (fin s m e) a h d v = rescaled (mul f two (fin s m e)) (twice-value f s m e h d)
+  where
+    rescaled : (z : Float) → HasValue z s (m * up e * 2) (down e) → Counts f z (a * 2)
+    rescaled nan w = absurd w
+    rescaled (inf t) w = absurd w
+    rescaled (fin t n g) w =
+        let M = 2 ^ low f in (
+          w .0 ∙ v .0,
+          eq-of-mul-eq-mul-right (down e) (down-pos e) (n * up g * M) (a * 2 * down g)
+              (mul-right-comm (n * up g) M (down e)
+              ∙ ap (λ (z : ℕ). z * M) (w .1)
+              ∙ mul-right-comm (m * up e * 2) (down g) M
+              ∙ ap (λ (z : ℕ). z * down g) (mul-right-comm (m * up e) 2 M ∙ ap (λ (z : ℕ). z * 2) (v .1) ∙ mul-right-comm a (down e) 2)
+              ∙ mul-right-comm (a * 2) (down e) (down g)),
+        )

@@ -1,4 +1,4 @@
--- W3C's B of two numbers from 0 to 1: it is an f32, seven of the eleven stay within 0 to 1 as rounded, and all are finite. Assumes nothing.
+-- W3C's B of two numbers from 0 to 1: it is an f32, eight of the eleven stay within 0 to 1 as rounded, and all are finite. Assumes nothing.
 use mathlib.Core.Path.{_≡_, refl, sym, ap, _∙_, subst}
 use mathlib.Core.Bool.{Bool, true, false, cond, _||_, _&&_, true≢false}
 use Prim.Native.Nat.{ℕ, zero, suc, _+_, _-_, _*_, _^_, _≤_, _<_}
@@ -25,6 +25,7 @@ use Rattle.public.specs.Compositing.{Mode, multiply, screen, overlay, da
 use Rattle.public.specs.Range.{InUnit}
 use Rattle.public.proofs.InRange.{at-most-one, unsigned, not-below, in-unit, zero-in, one-in, cond-in, product-in, one-less, complement-in}
 use Rattle.public.proofs.Screen.{screen-in}
+use Rattle.public.proofs.Exclusion.{exclusion-in}
 
 -- ---- B is an f32
 hard-fits : (b s : Float) → T (fits binary32 (hardLightB b s))
@@ -225,7 +226,7 @@ difference-in b s p q =
     let u : AtMost 1 (b ⊖ s) = same-bound 1 (b ⊖ s) (plain b ⊖ plain s) e (apart-in (plain b) (plain s) (unsigned p) (unsigned q) (plain-bound 1 b (at-most-one p)) (plain-bound 1 s (at-most-one q))) in
     in-unit (absOf (b ⊖ s)) (abs-fits (b ⊖ s)) (not-below (absOf (b ⊖ s)) (abs-unsigned 1 (b ⊖ s) h u)) (abs-bound 1 (b ⊖ s) h u)
 
--- ---- the seven
+-- ---- the eight
 abbrev pub within : Mode → Bool
 within multiply = true
 within screen = true
@@ -237,7 +238,7 @@ within colorBurn = true
 within hardLight = false
 within softLight = false
 within difference = true
-within exclusion = false
+within exclusion = true
 
 pub blend-in : (m : Mode) → T (within m) → (b s : Float) → InUnit b → InUnit s → InUnit (B m b s)
 blend-in multiply w b s p q = product-in p q
@@ -250,7 +251,7 @@ blend-in colorBurn w b s p q = burn-in b s p q
 blend-in hardLight w b s p q = absurd w
 blend-in softLight w b s p q = absurd w
 blend-in difference w b s p q = difference-in b s p q
-blend-in exclusion w b s p q = absurd w
+blend-in exclusion w b s p q = exclusion-in p q
 
 -- ---- multiply, screen, hard light
 screen-bound : (N : ℕ) → 1 + N + 1 * N ≤ 2 ^ 24 → 1 + N ≤ 2 ^ 24 → 1 * N ≤ 2 ^ 24 → (b x : Float) → AtMost 1 b → AtMost N x → AtMost (1 + N + 1 * N) (b ⊕ x ⊖ b ⊗ x)
@@ -313,6 +314,4 @@ blend-bound colorBurn b s p q = small colorBurn tt b s p q
 blend-bound hardLight b s p q = at-most-more 7 100 (hardLightB b s) (lit≤ tt) (hard-bound b s (at-most-one p) (at-most-one q))
 blend-bound softLight b s p q = soft-bound b s p q
 blend-bound difference b s p q = small difference tt b s p q
-blend-bound exclusion b s p q =
-    at-most-more 4 100 (b ⊕ s ⊖ f2 ⊗ b ⊗ s) (lit≤ tt)
-    (sub-bound binary32 2 2 (lit≤ tt) (b ⊕ s) (f2 ⊗ b ⊗ s) (add-bound binary32 1 1 (lit≤ tt) b s (at-most-one p) (at-most-one q)) (mul-bound binary32 2 1 (lit≤ tt) (f2 ⊗ b) s (mul-bound binary32 2 1 (lit≤ tt) f2 b two-under (at-most-one p)) (at-most-one q)))
+blend-bound exclusion b s p q = small exclusion tt b s p q

@@ -2,16 +2,11 @@
 -- hypothesis of PorterDuff.antt and Compositing.antt holds there. Assumes nothing.
 use mathlib.Core.Path.{_≡_, refl, sym, _∙_}
 use mathlib.Core.Bool.{Bool, true, false, _&&_}
-use Prim.Native.Nat.{ℕ, _*_, _^_, _≤_, _<_}
-use native.Mathlib.Nat.{lt-of-lt-of-le, mul-le-mul-right}
-use native.Mathlib.Omega.{arith}
-use lib.Dec.{T, lt→ltb, lit≤}
-use lib.Ieee.{Float, nan, inf, fin, binary32, up, down, lt, eq}
-use lib.Ieee.Fits.{down-pos}
+use lib.Dec.{T}
+use lib.Ieee.{Float, nan, inf, fin, binary32, lt, eq}
 use lib.Ieee.Scale.{finite}
 use Rattle.float_steps.specs.Notation.{_⊕_, _⊗_, f0, f1, half}
 use Rattle.ieee_laws.specs.Same.{plain}
-use Rattle.ieee_laws.specs.Size.{AtMost, doubles}
 use Rattle.ieee_laws.proofs.Zero.{plain-twice, add-same}
 use Rattle.ieee_laws.proofs.Order.{lt-same}
 use Rattle.ieee_laws.proofs.Bound.{add-unsigned}
@@ -20,7 +15,7 @@ use Rattle.public.specs.Compositing.{Mode, multiply, screen, overlay, da
 use Rattle.public.specs.FractionDifferences.{ColourOutside, AlphaOutside}
 use Rattle.public.specs.BlendDifferences.{infinite, StoredOutside}
 use Rattle.public.specs.Range.{InUnit}
-use Rattle.public.proofs.InRange.{at-most-one, finite-of, unsigned, not-below, product-in, complement-in, one-in}
+use Rattle.public.proofs.InRange.{finite-of, unsigned, not-below, product-in, complement-in, one-in, doubles-in}
 
 -- ---- Porter and Duff
 sum-not-below : {x y : Float} → InUnit x → InUnit y → lt (x ⊕ y) f0 ≡ false
@@ -94,17 +89,6 @@ module _ {s sa d da : Float} (ps : InUnit s) (psa : InUnit sa) (pd : InUnit d) (
       and-false true b e = e
       and-false false b e = refl
 
-  small : {x : Float} → InUnit x → T (doubles binary32 x)
-  small {x} p = each x (at-most-one p)
-    where
-      each : (x : Float) → AtMost 1 x → T (doubles binary32 x)
-      each nan u = absurd u
-      each (inf s) u = absurd u
-      each (fin s m e) u = lt→ltb (m * up e * 2) (2 ^ 128 * down e) (lt-of-lt-of-le (four (m * up e) (down e) (down-pos e) u) (mul-le-mul-right (down e) (lit≤ tt)))
-        where
-          four : (a c : ℕ) → 0 < c → a ≤ 1 * c → a * 2 < 4 * c
-          four a c p h = omega arith
-
   pub stored-outside : (m : Mode) → (eq s f0 && eq d f1 ≡ false) → StoredOutside m s sa d da
   stored-outside multiply n = tt
   stored-outside screen n = tt
@@ -116,4 +100,4 @@ module _ {s sa d da : Float} (ps : InUnit s) (psa : InUnit sa) (pd : InUnit d) (
   stored-outside hardLight n = not-infinite (eq s half) pd
   stored-outside softLight n = tt
   stored-outside difference n = tt
-  stored-outside exclusion n = (small (product-in ps psa), small (product-in pd pda))
+  stored-outside exclusion n = (doubles-in (product-in ps psa), doubles-in (product-in pd pda))

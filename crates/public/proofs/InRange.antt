@@ -1,18 +1,18 @@
 -- Numbers from 0 to 1: their sizes and signs, their products, and 1 less one of them. Assumes nothing.
 use mathlib.Core.Path.{_≡_, refl, sym, ap, _∙_, subst}
 use mathlib.Core.Bool.{Bool, true, false, cond, true≢false}
-use Prim.Native.Nat.{ℕ, zero, suc, _+_, _-_, _*_, _≤_, _<_, zero-le}
-use native.Mathlib.Nat.{mul-one, le-trans, le-of-eq, zero-mul, zero-lt-suc, mul-pos}
+use Prim.Native.Nat.{ℕ, zero, suc, _+_, _-_, _*_, _^_, _≤_, _<_, zero-le}
+use native.Mathlib.Nat.{mul-one, le-trans, le-of-eq, zero-mul, zero-lt-suc, mul-pos, lt-of-lt-of-le, mul-le-mul-right}
 use native.Mathlib.Omega.{arith}
 use lib.IntN.{ℤ}
-use lib.Dec.{T, lit≤}
+use lib.Dec.{T, lt→ltb, lit≤}
 use lib.Ieee.{Float, nan, inf, fin, binary32, up, down, ofBits, add, sub, neg, sum, fits, lt, isNan, round}
 use lib.Ieee.Fits.{mul-fits, sub-fits, up-pos, down-pos}
 use lib.Ieee.Scale.{finite}
 use borrow.Author.Tests.{ltb-false, le-ltb}
 use Rattle.float_steps.specs.Notation.{_⊖_, _⊗_, f0, f1}
 use Rattle.ieee_laws.specs.Same.{plain, Same}
-use Rattle.ieee_laws.specs.Size.{AtMost, Unsigned}
+use Rattle.ieee_laws.specs.Size.{AtMost, Unsigned, doubles}
 use Rattle.ieee_laws.proofs.Zero.{plain-twice, mul-same, sub-same}
 use Rattle.ieee_laws.proofs.Order.{lt-same}
 use Rattle.ieee_laws.proofs.Bound.{at-most-finite, mul-bound, plain-bound, same-bound, mul-unsigned, round-bound, round-unsigned}
@@ -144,6 +144,18 @@ plain-in {x} p = in-unit (plain x) (plain-fits x (p .held)) (lt-same (plain x) x
     plain-fits (inf s) h = h
     plain-fits (fin s (suc m) e) h = h
     plain-fits (fin s zero e) h = unfold fits in tt
+
+-- ---- twice a number from 0 to 1 does not overflow
+pub doubles-in : {x : Float} → InUnit x → T (doubles binary32 x)
+doubles-in {x} p = each x (at-most-one p)
+  where
+    each : (x : Float) → AtMost 1 x → T (doubles binary32 x)
+    each nan u = absurd u
+    each (inf s) u = absurd u
+    each (fin s m e) u = lt→ltb (m * up e * 2) (2 ^ 128 * down e) (lt-of-lt-of-le (four (m * up e) (down e) (down-pos e) u) (mul-le-mul-right (down e) (lit≤ tt)))
+      where
+        four : (a c : ℕ) → 0 < c → a ≤ 1 * c → a * 2 < 4 * c
+        four a c p h = omega arith
 
 -- ---- pixels
 pub unit-at : (c : Colour) (p : Rgba) → InUnits p → InUnit (at c p)

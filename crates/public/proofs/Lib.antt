@@ -21,6 +21,7 @@ pub mod Mixture
 pub mod UnitSteps
 pub mod MixtureRange
 pub mod Screen
+pub mod Exclusion
 -- Small things
 pub mod Constants
 pub mod Pixels

@@ -1,12 +1,13 @@
--- Multiply, Screen, Lighten and Difference on numbers from 0 to 1: the stored colour is W3C's formula with its mixing step alone, the clamps having nothing to do; and where an
--- alpha is 0 or 1 it is W3C's co as printed. Assumes nothing.
+-- Multiply, Screen, Lighten, Difference and Exclusion on numbers from 0 to 1: the clamps have nothing to do. The stored colour of the first four is W3C's formula with its mixing
+-- step alone, and where an alpha is 0 or 1 it is W3C's co as printed. Assumes nothing.
 use mathlib.Core.Path.{_≡_, ap, _∙_}
 use mathlib.Core.Bool.{Bool, true, false, _||_}
 use lib.Dec.{T}
 use lib.Ieee.{Float}
+use Rattle.float_steps.specs.Notation.{_⊗_}
 use Rattle.float_steps.specs.Order.{unitOf}
 use Rattle.ieee_laws.specs.Same.{plain, Same}
-use Rattle.ieee_laws.proofs.Clamp.{unit-kept}
+use Rattle.ieee_laws.proofs.Clamp.{unit-kept, unit-twice}
 use Rattle.pictures.specs.declared.Rgba.{Rgba}
 use Rattle.pixels.specs.declared.Params.{Params}
 use Rattle.pixels.specs.Pixel.{pixelOf}
@@ -14,7 +15,7 @@ use Rattle.public.specs.Compositing.{Mode, multiply, screen, overlay, da
 use Rattle.public.specs.Operators.{Colour, at, blendOp}
 use Rattle.public.specs.BlendDifferences.{spread, coBy}
 use Rattle.public.specs.Range.{InUnit, InUnits, opaque, absent}
-use Rattle.public.proofs.InRange.{unit-at, held-of}
+use Rattle.public.proofs.InRange.{unit-at, held-of, product-in, doubles-in}
 use Rattle.public.proofs.BlendRange.{blend-fits, blend-bound, blend-in}
 use Rattle.public.proofs.MixtureRange.{mixed-in}
 use Rattle.public.proofs.AtEdges.{mixed-at-edge}
@@ -63,3 +64,10 @@ module _ (p : Params) (s d : Rgba) (ps : InUnits s) (pd : InUnits d) (c : Colour
       let f = unit-at c s ps in
       no-clamp m w
       ∙ mixed-at-edge (at c s) (s .a) (at c d) (d .a) f (ps .a) b (pd .a) (B m (at c d) (at c s)) (blend-fits m (at c d) (at c s) (b .held) (f .held)) (blend-bound m (at c d) (at c s) b f) o
+
+  pub exclusion-no-clamp : Same (at c (pixelOf (blendOp exclusion) p s d)) (B exclusion (at c d ⊗ d .a) (at c s ⊗ s .a))
+  exclusion-no-clamp =
+      let x = product-in (unit-at c s ps) (ps .a) in
+      let y = product-in (unit-at c d pd) (pd .a) in
+      let v = B exclusion (at c d ⊗ d .a) (at c s ⊗ s .a) in
+      stored-is p s d exclusion (held-of s ps) (held-of d pd) c (doubles-in x, doubles-in y) ∙ ap plain (unit-twice v ∙ kept v (blend-in exclusion tt (at c d ⊗ d .a) (at c s ⊗ s .a) y x))

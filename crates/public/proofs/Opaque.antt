@@ -1,5 +1,5 @@
--- Two opaque pixels of numbers from 0 to 1: every mode is W3C's printed formula, clamped, and Multiply, Screen, Darken, Lighten, ColorDodge, ColorBurn and Difference are
--- it with no clamp to be seen. Alpha is W3C's. Assumes nothing.
+-- Two opaque pixels of numbers from 0 to 1: every mode is W3C's printed formula, clamped, and all but Overlay, HardLight and SoftLight are it with no clamp
+-- to be seen. Alpha is W3C's. Assumes nothing.
 use mathlib.Core.Path.{_≡_, refl, sym, ap, _∙_}
 use mathlib.Core.Bool.{Bool, true, cond}
 use lib.Dec.{T}

@@ -33,7 +33,7 @@ module _ (E U H M : ℕ) (e0 : 0 < E) (eU : U ≡ 4 * E) (eH : H ≡ 33554432 * 
   posM = omega arith
 
   -- (x + y) M is M M + x y, less the product of what x and y leave of M
-  left-over : (x y w z : ℕ) → x + w ≡ M → y + z ≡ M → x * M + y * M + w * z ≡ M * M + x * y
+  pub left-over : (x y w z : ℕ) → x + w ≡ M → y + z ≡ M → x * M + y * M + w * z ≡ M * M + x * y
   left-over x y w z a b =
       let l : M * M ≡ x * y + x * z + (w * y + w * z) = (λ i. sym a i * sym b i) ∙ add-mul x w (y + z) ∙ (λ i. mul-add x y z i + mul-add w y z i) in
       let c : x * M ≡ x * y + x * z = ap (λ (n : ℕ). x * n) (sym b) ∙ mul-add x y z in
@@ -167,7 +167,7 @@ two-counts : Counts binary32 f2 (2 * M)
 unfolding ofBits
 two-counts = (refl, refl)
 
-lower-product : (a b j : ℕ) → a * b < M * 2 ^ (24 + j) → a * b * 2 ≤ g a b * M * 2 + M * 2 ^ j
+pub lower-product : (a b j : ℕ) → a * b < M * 2 ^ (24 + j) → a * b * 2 ≤ g a b * M * 2 + M * 2 ^ j
 lower-product a b j h = le-of-mul-le-mul-right (le-trans (le-of-eq (mul-right-comm (a * b) 2 M)) (le-trans (n .1) (le-of-eq right))) (pow-pos 149)
   where
     low : a * b * M / (M * M) < 2 ^ (24 + j)
@@ -185,13 +185,13 @@ module _ {x y : Float} {a b : ℕ} (p : Part x a) (q : Part y b) where
   abbrev A : ℕ
   A = grid binary32 (a + b) M
 
-  sum-ok : T (finite (R (a + b) M))
+  pub sum-ok : T (finite (R (a + b) M))
   sum-ok = bounded (a + b) M M-pos (total a b (p .most) (q .most))
 
   product-ok : T (finite (R (a * b) (M * M)))
   product-ok = bounded (a * b) (M * M) MM-pos (fraction a b (p .most) (q .most))
 
-  sum-near : A ≤ a + b + 4 * E
+  pub sum-near : A ≤ a + b + 4 * E
   sum-near = go (ltb (a + b) (2 * M)) (ltb-true (a + b) (2 * M)) (ltb-false (a + b) (2 * M))
     where
       within : (n g e : ℕ) → g * 2 ≤ n * 2 + e * 8 → g ≤ n + 4 * e
@@ -207,7 +207,7 @@ module _ {x y : Float} {a b : ℕ} (p : Part x a) (q : Part y b) where
           (round-at-most binary32 (a + b) M (2 * M) f2 M-pos sum-ok (ofBits-fits binary32 0x4000_0000) two-counts (mul-le-mul-right M (total a b (p .most) (q .most))))
           (k refl)
 
-  sum-nearer : a + b < M → A ≤ a + b + 2 * E
+  pub sum-nearer : a + b < M → A ≤ a + b + 2 * E
   sum-nearer h = within (a + b) A E (near-whole (a + b) 125 h)
     where
       within : (n g e : ℕ) → g * 2 ≤ n * 2 + e * 4 → g ≤ n + 2 * e
