@@ -1,11 +1,13 @@
 -- One colour of a pixel, whichever it is. Assumes nothing.
 use mathlib.Core.Path.{_≡_, refl}
+use Prim.Native.Nat.{ℕ}
 use lib.Dec.{T}
 use lib.Ieee.{Float, binary32, fits}
+use lib.Ieee.Bits.{ofBits-fits}
 use Rattle.pictures.specs.declared.Rgba.{Rgba}
-use Rattle.pixels.specs.Pixel.{onColours, premultOf, withAlpha, clear}
+use Rattle.pixels.specs.Pixel.{rgbaOf, onColours, premultOf, withAlpha, clear}
 use Rattle.public.specs.Operators.{Colour, red, green, blue, at, Held}
-use Rattle.float_steps.specs.Notation.{_⊗_, f0}
+use Rattle.float_steps.specs.Notation.{_⊗_, lit, f0}
 
 pub held-at : (c : Colour) (p : Rgba) → Held p → T (fits binary32 (at c p))
 held-at red p h = h .r
@@ -31,3 +33,7 @@ pub on-clear : (c : Colour) → at c clear ≡ f0
 on-clear red = refl
 on-clear green = refl
 on-clear blue = refl
+
+-- a pixel that is read from four words is one of binary32, whatever they are
+pub words-held : (r g b a : ℕ) → Held (rgbaOf (lit r) (lit g) (lit b) (lit a))
+words-held r g b a = record { r = ofBits-fits binary32 r; g = ofBits-fits binary32 g; b = ofBits-fits binary32 b; a = ofBits-fits binary32 a }

@@ -25,8 +25,8 @@ use Rattle.public.specs.Operators.{porterDuffOp, blendOp}
 use Rattle.public.specs.FractionDifferences.{Form, exact, premultiplied, straight, divided, capped, form}
 use Rattle.public.specs.BlendDifferences.{union, uncovered, printed, spread, coBy, overUnion, storedBy}
 
-abbrev pub pixelAt : CompositeOp → Float → Float → Float → Float → Rgba
-pixelAt op s sa d da = pixelOf op unused (rgbaOf s s s sa) (rgbaOf d d d da)
+abbrev pub grayPixel : CompositeOp → Float → Float → Float → Float → Rgba
+grayPixel op s sa d da = pixelOf op unused (rgbaOf s s s sa) (rgbaOf d d d da)
 
 -- ---- Porter and Duff: a colour as it stands, against the paper's; a colour in its form, against the paper's in that form; an alpha
 pub data Part : Type 0 where
@@ -48,9 +48,9 @@ meant divided p q = p ⊘ q
 meant capped p q = p
 
 abbrev pub partHere : Part → Operator → Float → Float → Float → Float → Float
-partHere storedForm o s sa d da = pixelAt (porterDuffOp o) s sa d da .r
-partHere colourSum o s sa d da = shown (form o) (pixelAt (porterDuffOp o) s sa d da .r) (pixelAt (porterDuffOp o) s sa d da .a)
-partHere coverageSum o s sa d da = pixelAt (porterDuffOp o) s sa d da .a
+partHere storedForm o s sa d da = grayPixel (porterDuffOp o) s sa d da .r
+partHere colourSum o s sa d da = shown (form o) (grayPixel (porterDuffOp o) s sa d da .r) (grayPixel (porterDuffOp o) s sa d da .a)
+partHere coverageSum o s sa d da = grayPixel (porterDuffOp o) s sa d da .a
 
 abbrev pub partThere : Part → Operator → Float → Float → Float → Float → Float
 partThere storedForm o s sa d da = colour o s sa d da
@@ -63,16 +63,16 @@ pub data Step : Type 0 where
 
 -- the pixel's alpha, or its colour
 abbrev pub stepHere : Step → Mode → Float → Float → Float → Float → Float
-stepHere division m s sa d da = pixelAt (blendOp m) s sa d da .r
-stepHere premultipliedArguments m s sa d da = pixelAt (blendOp m) s sa d da .r
-stepHere noUncoveredTerms m s sa d da = pixelAt (blendOp m) s sa d da .r
-stepHere blendFunction m s sa d da = pixelAt (blendOp m) s sa d da .r
-stepHere alphaSum m s sa d da = pixelAt (blendOp m) s sa d da .a
-stepHere mixing m s sa d da = pixelAt (blendOp m) s sa d da .r
-stepHere unionAsDivisor m s sa d da = pixelAt (blendOp m) s sa d da .r
-stepHere nothingCovered m s sa d da = pixelAt (blendOp m) s sa d da .r
-stepHere clampOfBlend m s sa d da = pixelAt (blendOp m) s sa d da .r
-stepHere clampOfResult m s sa d da = pixelAt (blendOp m) s sa d da .r
+stepHere division m s sa d da = grayPixel (blendOp m) s sa d da .r
+stepHere premultipliedArguments m s sa d da = grayPixel (blendOp m) s sa d da .r
+stepHere noUncoveredTerms m s sa d da = grayPixel (blendOp m) s sa d da .r
+stepHere blendFunction m s sa d da = grayPixel (blendOp m) s sa d da .r
+stepHere alphaSum m s sa d da = grayPixel (blendOp m) s sa d da .a
+stepHere mixing m s sa d da = grayPixel (blendOp m) s sa d da .r
+stepHere unionAsDivisor m s sa d da = grayPixel (blendOp m) s sa d da .r
+stepHere nothingCovered m s sa d da = grayPixel (blendOp m) s sa d da .r
+stepHere clampOfBlend m s sa d da = grayPixel (blendOp m) s sa d da .r
+stepHere clampOfResult m s sa d da = grayPixel (blendOp m) s sa d da .r
 
 -- by convention: B not clamped, and the result not clamped
 abbrev pub blendKept : Convention → Mode → Float → Float → Float → Float → Float
