@@ -1,4 +1,4 @@
--- On the documents' own domain, numbers from 0 to 1, the listed inputs come down to two: Over and DstOver where both alphas are 0, and ColorBurn of black on white. Every other
+-- On the documents' own domain, numbers from 0 to 1, the inputs that the theorems exclude come down to two: Over and DstOver where both alphas are 0, and ColorBurn of black on white. Every other
 -- hypothesis of PorterDuff.antt and Compositing.antt holds there. Assumes nothing.
 use mathlib.Core.Path.{_≡_, refl, sym, _∙_}
 use mathlib.Core.Bool.{Bool, true, false, _&&_}
