@@ -99,7 +99,18 @@ pub extern "C" fn tray_job(
         ⌝ }
 {
     let a = job::call::run(
-        width, height, channels, dst, layers, table, args, samples, allowance, work0, work1, mark,
+        width,
+        height,
+        channels,
+        dst,
+        layers,
+        table,
+        args,
+        samples,
+        allowance,
+        work0,
+        work1,
+        mark,
     );
     *layer = a.layer;
     *stores = a.stores;

@@ -1,0 +1,33 @@
+-- `tray::tray_job` meets its contract: it is the job's call, its answer taken apart. Assumes nothing.
+use mathlib.Core.Path.{_∙_, ap}
+use borrow.Author.Needs.{needs}
+use mir.Facts.{toZ-ofZ}
+use Rattle.tray.specs.Answers.{jobOutcome}
+use Rattle.tray.proofs.tray_job.Statement.{statement}
+use Rattle.tray.proofs.tray_job.Tie as tie
+
+run-requires : tie.Need-run-requires
+run-requires c κs = search needs
+
+flag-requires : tie.Need-flag-requires
+flag-requires c κs = search needs
+
+same-length : tie.Need-same-length
+same-length c = search needs
+
+same-length-2 : tie.Need-same-length-2
+same-length-2 c = search needs
+
+same-length-3 : tie.Need-same-length-3
+same-length-3 c = search needs
+
+returns : tie.Need-returns
+returns c =
+    let r = c .before .before .before .before .before .before .before in
+    let f = r .before .before .before .before .before .before .before .before .before .before .fits in
+    rw (c .flag .ensures)
+    (ap jobOutcome (rw (toZ-ofZ (f .width), toZ-ofZ (f .height), toZ-ofZ (f .channels), toZ-ofZ (f .layers)) at (r .run .ensures)))
+
+pub tray-job-spec : {M : Type 1} → statement M
+tray-job-spec =
+    tie.close (tie.spec run-requires flag-requires same-length same-length-2 same-length-3 returns)
