@@ -15,7 +15,8 @@ use Rattle.layers.proofs.Accepted.{accepted, row-held, words-held}
 use Rattle.layers.proofs.Ranges.{channels-most}
 use Rattle.compose.proofs.Placed.{channels-least}
 use Rattle.job.specs.Memory.{Mem, positionOf}
-use Rattle.job.specs.Call.{pixelCount, layerCount, endOf, setting, settingOf, memoryFault, callFault, runOf, madeOf, acceptance, refusal, Outcome, acceptedOf, callOf}
+use Rattle.job.specs.Job.{pixelCount, layerCount, endOf, memoryFault, callFault, acceptance, refusal}
+use Rattle.job.specs.Call.{setting, settingOf, runOf, madeOf, Outcome, acceptedOf, callOf}
 use Rattle.job.specs.Steps.{Decodable, Sized, Due}
 
 -- ---- the faults

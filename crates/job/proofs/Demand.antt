@@ -17,7 +17,8 @@ use Rattle.layers.specs.Inputs.{Inputs, jobFault}
 use Rattle.job.specs.declared.Answer.{Answer}
 use Rattle.job.specs.declared.Write.{Write}
 use Rattle.job.specs.Memory.{Mem, memOf, positionOf, stored, workOf}
-use Rattle.job.specs.Call.{pixelCount, layerCount, endOf, callFault, madeOf, leftBy, Outcome, acceptance, refusal, acceptedOf, callOf}
+use Rattle.job.specs.Job.{pixelCount, layerCount, endOf, callFault, acceptance, refusal}
+use Rattle.job.specs.Call.{madeOf, leftBy, Outcome, acceptedOf, callOf}
 use Rattle.job.specs.Model.{pictureOf, writeSequence, entriesOf, Buffer, own0, own1, other, Marker, own, foreign, lentBuffer, lentMarker, Loan, lent, Call, allowed, cut, refused, Seen, modelOf}
 use Rattle.job.specs.Demand.{is0, is1, markReturned, returned, programOf, history, memoryAfter, FairCall, Fair, beneathIn, beneathOf, Underway, Demand3}
 use Rattle.job.proofs.Writes.{le-or-lt}

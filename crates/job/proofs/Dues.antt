@@ -120,21 +120,29 @@ other-of a b r e h =
     ⊎-elim (λ l. e ∙ min-eq-right l) (λ l. let x : min a b ≡ a = min-eq-left (omega arith) in absurd (omega arith)) (le-or-lt b a)
 
 -- after `done` writes, a whole number of pixels: the stretch that is next, r writes of it
-module _ (s : Setting) (start made done r : ℕ) (m₀ m : Mem) (q : Due s start made m₀) (z : Sized s m) (h : done < made) (fives : done % 5 ≡ 0) (at : positionOf m ≡ start + done / 5) (e : r ≡ min (made - done) (5 * (area s - (start + done / 5) % area s))) where
-  pub due-area : 0 < area s
-  due-area = q .some (omega arith)
+pub record Turn (s : Setting) (start made done r : ℕ) (m₀ m : Mem) : Type 0 where
+  pub due : Due s start made m₀
+  pub sized : Sized s m
+  pub left : done < made
+  pub fives : done % 5 ≡ 0
+  pub at : positionOf m ≡ start + done / 5
+  pub taken : r ≡ min (made - done) (5 * (area s - (start + done / 5) % area s))
 
-  pub due-below : (start + done / 5) % area s < area s
+module _ {s : Setting} {start made done r : ℕ} {m₀ m : Mem} (u : Turn s start made done r m₀ m) where
+  due-area : 0 < area s
+  due-area = u .due .some (omega (arith, u .left))
+
+  due-below : (start + done / 5) % area s < area s
   due-below = mod-lt (start + done / 5) due-area
 
   pub due-left : r ≤ made - done
-  due-left = part-of (made - done) _ r e .0
+  due-left = part-of (made - done) _ r (u .taken) .0
 
   due-inside : r ≤ 5 * (area s - (start + done / 5) % area s)
-  due-inside = part-of (made - done) _ r e .1
+  due-inside = part-of (made - done) _ r (u .taken) .1
 
   pub due-some : 0 < r
-  due-some = let b = due-below in some-of (made - done) _ r e (omega arith) (omega arith)
+  due-some = let b = due-below in some-of (made - done) _ r (u .taken) (omega (arith, u .left)) (omega arith)
 
   pub due-stretch : Stretch s ((start + done / 5) / area s) ((start + done / 5) % area s) (r / 5) (r % 5) m
   due-stretch =
@@ -143,21 +151,21 @@ module _ (s : Setting) (start made done r : ℕ) (m₀ m : Mem) (q : Due s start
       let i = due-inside in
       let d : (5 * start + done) / 5 ≡ start + done / 5 = omega arith in
       record {
-        sized = z;
-        decodable = subst (λ (x : ℕ). Decodable s (x / area s)) d (q .layers (5 * start + done) (omega arith));
+        sized = u .sized;
+        decodable = subst (λ (x : ℕ). Decodable s (x / area s)) d (u .due .layers (5 * start + done) (omega (arith, u .left)));
         inside = omega arith;
         few = omega arith;
         room = λ p. omega arith;
-        position = at ∙ sym (div-add-mod' (start + done / 5) (area s));
-        bound = omega (arith, q .bound);
+        position = u .at ∙ sym (div-add-mod' (start + done / 5) (area s));
+        bound = omega (arith, u .due .bound, u .at, u .left, u .fives);
       }
 
   -- and after it
   pub due-fives : done + r < made → (done + r) % 5 ≡ 0
-  due-fives l = let x = other-of (made - done) _ r e (omega arith) in omega (arith, x)
+  due-fives l = let x = other-of (made - done) _ r (u .taken) (omega (arith, u .left)) in omega (arith, x, u .fives)
 
   pub due-run : (m′ : Mem) → m ≡ runOf s (5 * start) done m₀ → m′ ≡ runOf s (5 * positionOf m) (5 * (r / 5) + r % 5) m → m′ ≡ runOf s (5 * start) (done + r) m₀
-  due-run m′ f g = run-on s (5 * start) done (5 * (r / 5) + r % 5) m₀ m m′ (5 * positionOf m) (done + r) f (omega arith) g (omega arith)
+  due-run m′ f g = run-on s (5 * start) done (5 * (r / 5) + r % 5) m₀ m m′ (5 * positionOf m) (done + r) f (omega (arith, u .at, u .fives)) g (omega arith)
 
   pub due-position : (m′ : Mem) → positionOf m′ ≡ positionOf m + r / 5 → positionOf m′ ≡ start + (done + r) / 5
-  due-position m′ g = omega arith
+  due-position m′ g = omega (arith, u .at, u .fives)

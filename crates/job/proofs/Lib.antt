@@ -8,3 +8,4 @@ pub mod Blocks
 pub mod Sequence
 pub mod Progress
 pub mod Demand
+pub mod Uses

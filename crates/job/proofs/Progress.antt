@@ -15,7 +15,8 @@ use Rattle.pictures.specs.Widen.{rgbaAt}
 use Rattle.job.specs.declared.Write.{Write}
 use Rattle.job.specs.declared.Write.the-variants.{Checkpoint}
 use Rattle.job.specs.Memory.{Mem, put, stored, workOf, wordWrite}
-use Rattle.job.specs.Call.{pixelCount, layerCount, endOf, settingOf, writeAt, runOf}
+use Rattle.job.specs.Job.{pixelCount, layerCount, endOf}
+use Rattle.job.specs.Call.{settingOf, writeAt, runOf}
 use Rattle.job.specs.Model.{pictureOf, writeSequence}
 use Rattle.job.proofs.Flat.{channel-at}
 use Rattle.job.proofs.Runs.{place-div, place-mod}

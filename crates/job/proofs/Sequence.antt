@@ -16,7 +16,8 @@ use Rattle.compose.specs.Compose.{composedAt}
 use Rattle.job.specs.declared.Write.{Write}
 use Rattle.job.specs.declared.Write.the-variants.{Checkpoint}
 use Rattle.job.specs.Memory.{Mem, workOf, fiveWrites}
-use Rattle.job.specs.Call.{pixelCount, layerCount, endOf, settingOf, pixelOf, writeAt}
+use Rattle.job.specs.Job.{pixelCount, layerCount, endOf}
+use Rattle.job.specs.Call.{settingOf, pixelOf, writeAt}
 use Rattle.job.specs.Model.{pictureOf, pictureWrites, writeSequence}
 use Rattle.job.proofs.Blocks.{length-blocks, getD-blocks}
 use Rattle.pictures.proofs.FlatWords.{flat-pixel}

@@ -7,22 +7,18 @@ use native.Mathlib.Nat.{add-zero, zero-add, add-suc, add-assoc, min-le-left, min
 use native.Mathlib.Numerals.{add-one}
 use native.Mathlib.Omega.{arith}
 use lib.Dec.{eqb}
-use lib.ListN.{length, getD, take, drop}
-use lib.Seq.{take-suc}
+use lib.ListN.{length, getD, drop}
 use Rattle.layers.specs.Layers.{layerAt}
 use Rattle.pictures.specs.declared.Words.{Words}
 use Rattle.pictures.specs.Widen.{rgbaAt, valuesOf}
 use Rattle.pictures.specs.FlatWords.{filled}
 use Rattle.compose.specs.declared.Plan.{Plan}
 use Rattle.compose.specs.Compose.{planOf, sourceOf, composedBy}
-use Rattle.job.specs.declared.Write.{Write}
-use Rattle.job.specs.declared.Write.the-variants.{Checkpoint}
-use Rattle.job.specs.Memory.{Mem, put, stored, workIn, workOf, wordWrite, fiveWrites, positionOf}
+use Rattle.job.specs.Memory.{Mem, stored, workIn, workOf, positionOf}
 use Rattle.job.specs.Call.{Setting, area, pixelOf, runOf}
-use Rattle.job.specs.Steps.{someOf, pixelsOf, stretchOf, phasePixel, Whole, Raised}
-use Rattle.pictures.proofs.FlatWords.{flat-pixel}
-use Rattle.job.proofs.Flat.{channel-at}
-use Rattle.job.proofs.Writes.{stored-snoc, word-at, word-mark, five-position, five-mark}
+use Rattle.job.specs.Steps.{someOf, pixelsOf, stretchOf, phasePixel, Whole, Raised, Room}
+use Rattle.compose.proofs.Parts.{flat-pixel}
+use Rattle.job.proofs.Writes.{some-mark, five-position, five-mark}
 use Rattle.job.proofs.Runs.{run-on, Under, under-pixel, under-write, uses}
 
 -- ---- what they leave
@@ -56,18 +52,6 @@ module _ (k : ℕ) (f : ℕ → Words) (from : ℕ) (m : Mem) where
   unfolding pixelsOf
   pixels-under zero b e = refl
   pixels-under (suc n) b e = five-under k (from + n) (f (from + n)) (pixelsOf k f from n m) b e ∙ pixels-under n b e
-
--- the writes before the position's leave the checkpoint
-some-mark : (k j : ℕ) (w : Words) (c : ℕ) (m : Mem) → c < 5 → someOf k j w c m .mark ≡ m .mark
-unfolding stored
-some-mark k j w zero m h = refl
-some-mark k j w (suc zero) m h = word-mark (4 * j) (w .r) m k
-some-mark k j w (suc (suc zero)) m h = word-mark (4 * j + 1) (w .g) _ k ∙ word-mark (4 * j) (w .r) m k
-some-mark k j w (suc (suc (suc zero))) m h =
-    word-mark (4 * j + 2) (w .b) _ k ∙ word-mark (4 * j + 1) (w .g) _ k ∙ word-mark (4 * j) (w .r) m k
-some-mark k j w (suc (suc (suc (suc zero)))) m h =
-    word-mark (4 * j + 3) (w .a) _ k ∙ word-mark (4 * j + 2) (w .b) _ k ∙ word-mark (4 * j + 1) (w .g) _ k ∙ word-mark (4 * j) (w .r) m k
-some-mark k j w (suc (suc (suc (suc (suc c))))) m h = absurd (omega arith)
 
 pub stretch-position : (k : ℕ) (f : ℕ → Words) (from n c : ℕ) (m : Mem) → c < 5 → 0 < length (m .mark)
     → positionOf (stretchOf k f from n c m) ≡ positionOf m + n
@@ -170,30 +154,11 @@ phase-pixel s m (suc k) j =
 pub filled-pixel : (f : ℕ → Words) (n : ℕ) (out buf : List ℕ) (x : ℕ) → buf ≡ filled f n out → x < n → rgbaAt buf 4 x ≡ f x
 filled-pixel f n out buf x e h = ap (λ (l : List ℕ). rgbaAt l 4 x) e ∙ flat-pixel f 0 n (drop (4 * n) out) x h ∙ ap f (zero-add x)
 
--- one channel more of a pixel, from a buffer that holds it
-pub some-more : (k j c : ℕ) (one : List ℕ) (m₀ m m′ : Mem) → c < 4 → m ≡ someOf k j (rgbaAt one 4 0) c m₀ → m′ ≡ put (wordWrite k (4 * j + c) (getD one c 0)) m
-    → m′ ≡ someOf k j (rgbaAt one 4 0) (c + 1) m₀
-some-more k j c one m₀ m m′ h e g =
-    let five = fiveWrites k j (rgbaAt one 4 0) (positionOf m₀ + 1) in
-    let word : getD five c (Checkpoint 0) ≡ wordWrite k (4 * j + c) (getD one c 0) =
-    word-at k j (rgbaAt one 4 0) (positionOf m₀ + 1) (Checkpoint 0) c h ∙ ap (wordWrite k (4 * j + c)) (channel-at one 0 c h ∙ ap (λ (x : ℕ). getD one x 0) (zero-add c)) in
-    g
-    ∙ ap (λ (w : Write). put w m) (sym word)
-    ∙ ap (put (getD five c (Checkpoint 0))) e
-    ∙ sym (stored-snoc (take c five) (getD five c (Checkpoint 0)) m₀)
-    ∙ ap (λ (ws : List Write). stored ws m₀) (sym (take-suc five c (Checkpoint 0) (omega arith)))
-    ∙ ap (λ (x : ℕ). someOf k j (rgbaAt one 4 0) x m₀) (sym (add-one c))
-
 -- ---- none yet
 
 pub pixels-none : (k : ℕ) (f : ℕ → Words) (from : ℕ) (m : Mem) → m ≡ pixelsOf k f from 0 m
 unfolding pixelsOf
 pixels-none k f from m = refl
-
-pub some-none : (k j : ℕ) (w : Words) (c : ℕ) (m : Mem) → c ≡ 0 → m ≡ someOf k j w c m
-unfolding stored
-some-none k j w zero m e = refl
-some-none k j w (suc c) m e = absurd (omega arith)
 
 -- ---- what the loops cite
 
@@ -202,6 +167,15 @@ part-of a b r e = (rw e (min-le-left a b), rw e (min-le-right a b))
 
 pub some-of : (a b r : ℕ) → r ≡ min a b → 0 < a → 0 < b → 0 < r
 some-of a b r e ha hb = rw e (le-min ha hb)
+
+-- room for a pixel of whole pictures
+pub pixel-room : (p : Plan) (channels dst source j : ℕ) (m : Mem) → Whole p channels dst source (length (m .work0)) (length (m .work1)) → j < p .dw * p .dh → Raised 0 m → Room j m
+pixel-room p channels dst source j m h l r = record {
+  in0 = omega (arith, h .work0-length);
+  in1 = omega (arith, h .work1-length);
+  marked = r .marked;
+  bound = omega (arith, r .bound);
+}
 
 -- work buffers of the same length
 pub whole-still : (p : Plan) (channels dst source a b a′ b′ : ℕ) → Whole p channels dst source a b → a′ ≡ a → b′ ≡ b → Whole p channels dst source a′ b′

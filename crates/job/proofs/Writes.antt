@@ -5,16 +5,17 @@ use mathlib.Core.List.{List, [], _∷_, _++_}
 use mathlib.Core.Logic.{_⊎_, inl, inr, ⊎-elim}
 use Prim.Native.Nat.{ℕ, zero, suc, _+_, _*_, _%_, _<_, _≤_}
 use native.Mathlib.Nat.{add-zero}
+use native.Mathlib.Numerals.{add-one}
 use native.Mathlib.Omega.{arith}
 use lib.Dec.{eqb, leb}
-use lib.ListN.{length, getD, set, length-set}
-use lib.Seq.{getD-set-same}
+use lib.ListN.{length, getD, set, take, length-set}
+use lib.Seq.{getD-set-same, take-suc}
 use borrow.Author.Tests.{eq-eqb, ne-eqb, eqb-true, eqb-false, leb-true, leb-false}
 use Rattle.pictures.specs.declared.Words.{Words}
 use Rattle.job.specs.declared.Write.{Write}
 use Rattle.job.specs.declared.Write.the-variants.{Work0, Work1, Checkpoint}
 use Rattle.job.specs.Memory.{Mem, put, InRange, stored, workOf, wordWrite, fiveWrites, positionOf}
-use Rattle.job.specs.Steps.{someOf}
+use Rattle.job.specs.Steps.{someOf, Room, DueWrite}
 
 pub le-or-lt : (a b : ℕ) → (a ≤ b) ⊎ (b < a)
 le-or-lt a b = go (leb a b) refl
@@ -107,39 +108,101 @@ five-other k j w q (suc (suc (suc zero))) m = word-other (4 * j + 3) (w .a) m k
 five-other k j w q (suc (suc (suc (suc zero)))) m = refl
 five-other k j w q (suc (suc (suc (suc (suc c))))) m = refl
 
--- four words leave the checkpoint
-pub four-mark : (k a b c d x y z w : ℕ) (m m₁ m₂ : Mem)
-    → m₁ ≡ put (wordWrite k b y) (put (wordWrite k a x) m)
-    → m₂ ≡ put (wordWrite k d w) (put (wordWrite k c z) m₁)
-    → m₂ .mark ≡ m .mark
-four-mark k a b c d x y z w m m₁ m₂ h₁ h₂ =
-    ap (λ (t : Mem). t .mark) h₂ ∙ word-mark d w _ k ∙ word-mark c z _ k ∙ ap (λ (t : Mem). t .mark) h₁ ∙ word-mark b y _ k ∙ word-mark a x _ k
+-- ---- the first of them
 
--- the five, as the code makes them
-pub five-made : (k j : ℕ) (w : Words) (m m₁ m₂ m₃ : Mem)
-    → m₁ ≡ put (wordWrite k (4 * j + 1) (w .g)) (put (wordWrite k (4 * j) (w .r)) m)
-    → m₂ ≡ put (wordWrite k (4 * j + 2 + 1) (w .a)) (put (wordWrite k (4 * j + 2) (w .b)) m₁)
-    → m₃ ≡ put (Checkpoint (positionOf m₂ + 1)) m₂
-    → m₃ ≡ someOf k j w 5 m
+-- those before the position's leave the checkpoint
+pub some-mark : (k j : ℕ) (w : Words) (c : ℕ) (m : Mem) → c < 5 → someOf k j w c m .mark ≡ m .mark
 unfolding stored
-five-made k j w m m₁ m₂ m₃ h₁ h₂ h₃ =
-    let e : 4 * j + 2 + 1 ≡ 4 * j + 3 = omega arith in
-    h₃
-    ∙ ap (λ (l : List ℕ). put (Checkpoint (getD l 0 0 + 1)) m₂) (four-mark k _ _ _ _ _ _ _ _ m m₁ m₂ h₁ h₂)
-    ∙ ap (put (Checkpoint (positionOf m + 1)))
-    (h₂
-    ∙ ap (λ (x : ℕ). put (wordWrite k x (w .a)) (put (wordWrite k (4 * j + 2) (w .b)) m₁)) e
-    ∙ ap (λ (t : Mem). put (wordWrite k (4 * j + 3) (w .a)) (put (wordWrite k (4 * j + 2) (w .b)) t)) h₁)
+some-mark k j w zero m h = refl
+some-mark k j w (suc zero) m h = word-mark (4 * j) (w .r) m k
+some-mark k j w (suc (suc zero)) m h = word-mark (4 * j + 1) (w .g) _ k ∙ word-mark (4 * j) (w .r) m k
+some-mark k j w (suc (suc (suc zero))) m h =
+    word-mark (4 * j + 2) (w .b) _ k ∙ word-mark (4 * j + 1) (w .g) _ k ∙ word-mark (4 * j) (w .r) m k
+some-mark k j w (suc (suc (suc (suc zero)))) m h =
+    word-mark (4 * j + 3) (w .a) _ k ∙ word-mark (4 * j + 2) (w .b) _ k ∙ word-mark (4 * j + 1) (w .g) _ k ∙ word-mark (4 * j) (w .r) m k
+some-mark k j w (suc (suc (suc (suc (suc c))))) m h = absurd (omega arith)
 
--- and the position is raised by one
+-- one more of them
+pub some-next : (k j : ℕ) (w : Words) (c : ℕ) (m : Mem) → c < 5 → someOf k j w (suc c) m ≡ put (getD (fiveWrites k j w (positionOf m + 1)) c (Checkpoint 0)) (someOf k j w c m)
+some-next k j w c m h =
+    let five = fiveWrites k j w (positionOf m + 1) in
+    ap (λ (ws : List Write). stored ws m) (take-suc five c (Checkpoint 0) h) ∙ stored-snoc (take c five) (getD five c (Checkpoint 0)) m
+
+-- as the code makes it, from the position that it finds
+some-more : (k j : ℕ) (w : Words) (c : ℕ) (m₀ m m′ : Mem) → c < 5 → m ≡ someOf k j w c m₀ → m′ ≡ put (getD (fiveWrites k j w (positionOf m + 1)) c (Checkpoint 0)) m
+    → m′ ≡ someOf k j w (c + 1) m₀
+some-more k j w c m₀ m m′ h e g =
+    let p : positionOf m ≡ positionOf m₀ = ap (λ (x : Mem). positionOf x) e ∙ ap (λ (l : List ℕ). getD l 0 0) (some-mark k j w c m₀ h) in
+    g
+    ∙ ap (λ (x : ℕ). put (getD (fiveWrites k j w (x + 1)) c (Checkpoint 0)) m) p
+    ∙ ap (put (getD (fiveWrites k j w (positionOf m₀ + 1)) c (Checkpoint 0))) e
+    ∙ sym (some-next k j w c m₀ h)
+    ∙ ap (λ (x : ℕ). someOf k j w x m₀) (sym (add-one c))
+
+pub some-none : (k j : ℕ) (w : Words) (c : ℕ) (m : Mem) → c ≡ 0 → m ≡ someOf k j w c m
+unfolding stored
+some-none k j w zero m e = refl
+some-none k j w (suc c) m e = absurd (omega arith)
+
+-- all five raise the position by one
 pub five-position : (k j : ℕ) (w : Words) (m : Mem) → 0 < length (m .mark) → positionOf (someOf k j w 5 m) ≡ positionOf m + 1
-unfolding stored
 five-position k j w m h =
-    ap (λ (l : List ℕ). getD (set l 0 (positionOf m + 1)) 0 0) (four-mark k _ _ _ _ _ _ _ _ m _ _ refl refl)
+    ap positionOf (some-next k j w 4 m (omega arith))
+    ∙ ap (λ (l : List ℕ). getD (set l 0 (positionOf m + 1)) 0 0) (some-mark k j w 4 m (omega arith))
     ∙ getD-set-same (m .mark) 0 (positionOf m + 1) 0 h
 
 pub five-mark : (k j : ℕ) (w : Words) (m : Mem) → length (someOf k j w 5 m .mark) ≡ length (m .mark)
-unfolding stored
 five-mark k j w m =
-    ap (λ (l : List ℕ). length (set l 0 (positionOf m + 1))) (four-mark k _ _ _ _ _ _ _ _ m _ _ refl refl)
-    ∙ length-set (m .mark) 0 (positionOf m + 1)
+    ap (λ (x : Mem). length (x .mark)) (some-next k j w 4 m (omega arith))
+    ∙ length-set (someOf k j w 4 m .mark) 0 (positionOf m + 1)
+    ∙ ap length (some-mark k j w 4 m (omega arith))
+
+-- ---- one step of the code
+
+-- the write is in range
+pub due-range : (k j : ℕ) (w : Words) (c : ℕ) (m : Mem) (word : ℕ) → Room j m → c < 4 → InRange m (wordWrite k (4 * j + c) word)
+due-range k j w c m word r h = word-range (4 * j + c) word m k (omega (arith, r .in0)) (omega (arith, r .in1))
+
+-- a word of the pixel, and the position
+pub step-word : (k j : ℕ) (w : Words) (c : ℕ) (m : Mem) (word : ℕ) → c < 4 → word ≡ getD (w .r ∷ w .g ∷ w .b ∷ w .a ∷ []) c 0
+    → put (wordWrite k (4 * j + c) word) m ≡ put (getD (fiveWrites k j w (positionOf m + 1)) c (Checkpoint 0)) m
+step-word k j w c m word h e =
+    ap (λ (x : Write). put x m) (ap (wordWrite k (4 * j + c)) e ∙ sym (word-at k j w (positionOf m + 1) (Checkpoint 0) c h))
+
+pub step-position : (k j : ℕ) (w : Words) (c : ℕ) (m : Mem) → c ≡ 4 → put (Checkpoint (positionOf m + 1)) m ≡ put (getD (fiveWrites k j w (positionOf m + 1)) c (Checkpoint 0)) m
+step-position k j w c m e = rw e
+
+-- c of the five writes have been made, from the memory m₀ on
+pub record Begun (k j : ℕ) (w : Words) (c : ℕ) (m₀ m : Mem) : Type 0 where
+  pub same : m ≡ someOf k j w c m₀
+  pub length0 : length (m .work0) ≡ length (m₀ .work0)
+  pub length1 : length (m .work1) ≡ length (m₀ .work1)
+  pub length-mark : length (m .mark) ≡ length (m₀ .mark)
+
+pub begun-none : (k j : ℕ) (w : Words) (m : Mem) → Begun k j w 0 m m
+begun-none k j w m = record { same = some-none k j w 0 m refl; length0 = refl; length1 = refl; length-mark = refl }
+
+module _ {k j : ℕ} {w : Words} {c : ℕ} {m₀ m : Mem} (h : c < 5) (g : Begun k j w c m₀ m) where
+  -- the next is due
+  pub begun-due : Room j m₀ → DueWrite k j w c m
+  begun-due r = record {
+    from = m₀;
+    after = g .same;
+    few = h;
+    room = record {
+      in0 = rw (g .length0) (r .in0);
+      in1 = rw (g .length1) (r .in1);
+      marked = rw (g .length-mark) (r .marked);
+      bound = rw (ap positionOf (g .same) ∙ ap (λ (l : List ℕ). getD l 0 0) (some-mark k j w c m₀ h)) (r .bound);
+    };
+  }
+
+  -- and has been made
+  pub begun-more : (m′ : Mem) → m′ ≡ put (getD (fiveWrites k j w (positionOf m + 1)) c (Checkpoint 0)) m → length (m′ .work0) ≡ length (m .work0) → length (m′ .work1) ≡ length (m .work1) → length (m′ .mark) ≡ length (m .mark)
+      → Begun k j w (c + 1) m₀ m′
+  begun-more m′ e a b d = record {
+    same = some-more k j w c m₀ m m′ h (g .same) e;
+    length0 = a ∙ g .length0;
+    length1 = b ∙ g .length1;
+    length-mark = d ∙ g .length-mark;
+  }

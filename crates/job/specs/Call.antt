@@ -1,14 +1,12 @@
--- What one call of a job leaves and answers, for every input and every memory that it is lent (document 01, "Stores and the mark", and checks 9 and 10
--- of its table). Definitions only.
-use mathlib.Core.Bool.{Bool, false, cond}
-use mathlib.Core.List.{List}
+-- What one call of a job leaves and answers, for every input and every memory that it is lent (document 01, "Stores and the mark"). Definitions only.
+use mathlib.Core.Bool.{cond}
+use mathlib.Core.List.{List, [], _∷_, _++_}
 use Prim.Native.Nat.{ℕ, zero, suc, _+_, _-_, _*_, _/_, _%_, min}
-use lib.Dec.{eqb, ltb}
+use lib.Dec.{eqb}
 use lib.IntN.{ℤ}
-use lib.ListN.{length, getD}
-use Rattle.layers.specs.declared.Verdict.{Verdict}
+use lib.ListN.{getD}
 use Rattle.layers.specs.Cells.{natOf}
-use Rattle.layers.specs.Inputs.{Inputs, verdict, jobFault}
+use Rattle.layers.specs.Inputs.{Inputs}
 use Rattle.layers.specs.Layers.{layerAt}
 use Rattle.pictures.specs.declared.Words.{Words}
 use Rattle.pictures.specs.Widen.{rgbaAt}
@@ -16,22 +14,12 @@ use Rattle.compose.specs.Compose.{composedAt}
 use Rattle.job.specs.declared.Answer.{Answer}
 use Rattle.job.specs.declared.Write.{Write}
 use Rattle.job.specs.declared.Write.the-variants.{Checkpoint}
+use Rattle.job.specs.Job.{endOf, callFault, acceptance, refusal}
 use Rattle.job.specs.Memory.{Mem, memOf, positionOf, put, workOf, fiveWrites}
 
--- ---- a job's numbers
+-- ---- what the writes are made from
 
--- the pixels of the destination, and of each picture (document 01: N)
-abbrev pub pixelCount : Inputs → ℕ
-pixelCount i = natOf (i .width) * natOf (i .height)
-
-abbrev pub layerCount : Inputs → ℕ
-layerCount i = natOf (i .count)
-
--- the position of a finished job
-abbrev pub endOf : Inputs → ℕ
-endOf i = (layerCount i + 1) * pixelCount i
-
--- what the writes are made from: the inputs without the count of layers, sides and channels as natural numbers
+-- the inputs without the count of layers, sides and channels as natural numbers
 pub record Setting : Type 0 where
   pub width : ℕ
   pub height : ℕ
@@ -59,21 +47,6 @@ settingOf i = setting (natOf (i .width)) (natOf (i .height)) (natOf (i .channels
 abbrev pub area : Setting → ℕ
 area s = s .width * s .height
 
--- ---- the checks of the memory, after those of the inputs
-
--- 9, WORK, and 10, MARK; 0 where there is neither. The checkpoint is one number, its position.
-unfoldable pub memoryFault : (pixels end : ℕ) → Mem → ℕ
-memoryFault pixels end m =
-    cond (eqb (length (m .work0)) (4 * pixels))
-    (cond (eqb (length (m .work1)) (4 * pixels))
-    (cond (eqb (length (m .mark)) 1)
-    (cond (ltb end (positionOf m)) 10 0)
-    10) 9) 9
-
--- the first fault of a call: of its inputs, else of its memory
-unfoldable pub callFault : Inputs → Mem → Verdict
-callFault i m = cond (eqb (jobFault i .number) 0) (verdict (memoryFault (pixelCount i) (endOf i) m) 0) (jobFault i)
-
 -- ---- the writes of an accepted call
 
 -- Pixel j of phase k, by the memory that it finds: phase 0 widens the destination, phase k + 1 composites layer k on the picture in work k mod 2.
@@ -89,6 +62,11 @@ writeAt s m p c = getD (fiveWrites (p / area s) (p % area s) (pixelOf s m (p / a
 unfoldable pub runOf : Setting → (t n : ℕ) → Mem → Mem
 runOf s t zero m = m
 runOf s t (suc n) m = let before = runOf s t n m in put (writeAt s before ((t + n) / 5) ((t + n) % 5)) before
+
+-- the writes themselves, in their order
+unfoldable pub traceOf : Setting → (t n : ℕ) → Mem → List Write
+traceOf s t zero m = []
+traceOf s t (suc n) m = traceOf s t n m ++ (writeAt s (runOf s t n m) ((t + n) / 5) ((t + n) % 5) ∷ [])
 
 -- ---- a call
 
@@ -106,12 +84,6 @@ pub record Outcome : Type 0 where
 
 abbrev pub outcome : List ℕ → List ℕ → List ℕ → Answer → Outcome
 outcome work0 work1 mark r = record { mem = memOf work0 work1 mark; answer = r }
-
-abbrev pub acceptance : (stores : ℕ) → (finished : Bool) → Answer
-acceptance stores finished = record { number = 0; layer = 0; stores = stores; finished = finished }
-
-abbrev pub refusal : Verdict → Answer
-refusal v = record { number = v .number; layer = v .layer; stores = 0; finished = false }
 
 unfoldable pub acceptedOf : Inputs → (allowance : ℕ) → Mem → Outcome
 acceptedOf i allowance m =

@@ -7,7 +7,8 @@ use Prim.Native.Nat.{ℕ, zero, suc, _+_, _*_, _/_, _%_, _<_, min}
 use lib.ListN.{take}
 use Rattle.layers.specs.Inputs.{Inputs}
 use Rattle.job.specs.Memory.{Mem, memOf, positionOf, workOf}
-use Rattle.job.specs.Call.{pixelCount, layerCount, endOf, callFault, callOf}
+use Rattle.job.specs.Job.{pixelCount, layerCount, endOf, callFault}
+use Rattle.job.specs.Call.{callOf}
 use Rattle.job.specs.Model.{pictureOf, Buffer, own0, own1, other, Marker, own, foreign, Loan, lent, Call, allowed, cut, refused, Seen, modelOf}
 
 -- ---- the program's calls

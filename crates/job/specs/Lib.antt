@@ -1,4 +1,5 @@
 pub mod Memory
+pub mod Job
 pub mod Call
 pub mod Steps
 pub mod Model

@@ -14,7 +14,7 @@ use Rattle.compose.specs.Compose.{composedAt}
 use Rattle.job.specs.declared.Answer.{Answer}
 use Rattle.job.specs.declared.Write.{Write}
 use Rattle.job.specs.Memory.{Mem, memOf, positionOf, stored, fiveWrites}
-use Rattle.job.specs.Call.{pixelCount, layerCount, endOf, callFault, acceptance, refusal}
+use Rattle.job.specs.Job.{pixelCount, layerCount, endOf, callFault, acceptance, refusal}
 
 -- ---- the pictures
 

@@ -19,6 +19,24 @@ use Rattle.job.specs.Call.{Setting, area}
 abbrev pub someOf : (k j : ℕ) → Words → (c : ℕ) → Mem → Mem
 someOf k j w c m = stored (take c (fiveWrites k j w (positionOf m + 1))) m
 
+-- a bound of positions and of a call's writes, 2^62; it is slack
+abbrev pub mostPosition : ℕ
+mostPosition = 4611686018427387904
+
+-- there is room for pixel j, and for the next position
+pub record Room (j : ℕ) (m : Mem) : Type 0 where
+  pub in0 : 4 * j + 3 < length (m .work0)
+  pub in1 : 4 * j + 3 < length (m .work1)
+  pub marked : 0 < length (m .mark)
+  pub bound : positionOf m < mostPosition
+
+-- Write c of the five is due: memory is what the c writes before it leave, made from some memory on.
+pub record DueWrite (k j : ℕ) (w : Words) (c : ℕ) (m : Mem) : Type 0 where
+  pub from : Mem
+  pub after : m ≡ someOf k j w c from
+  pub few : c < 5
+  pub room : Room j m
+
 -- n whole pixels of picture k from pixel `from` on, pixel j with the words f j
 unfoldable pub pixelsOf : (k : ℕ) → (ℕ → Words) → (from n : ℕ) → Mem → Mem
 pixelsOf k f from zero m = m
@@ -34,10 +52,6 @@ phasePixel dst channels p source beneath zero j = rgbaAt dst channels j
 phasePixel dst channels p source beneath (suc k) j =
     composedBy p source (λ x. valuesOf (rgbaAt beneath 4 x)) (rgbaAt beneath 4 j) j
 
--- a bound of positions and of a call's writes, 2^62; it is slack
-abbrev pub mostPosition : ℕ
-mostPosition = 4611686018427387904
-
 -- what a phase asks of its plan and of the lengths of its lists: whole pictures of dw by dh pixels
 pub record Whole (p : Plan) (channels dst source work0 work1 : ℕ) : Type 0 where
   pub ready : Ready p source
@@ -52,7 +66,7 @@ pub record Whole (p : Plan) (channels dst source work0 work1 : ℕ) : Type 0 whe
 -- the checkpoint is there, and n positions from it are in bounds
 pub record Raised (n : ℕ) (m : Mem) : Type 0 where
   pub marked : 0 < length (m .mark)
-  pub bound : positionOf m + n ≤ mostPosition
+  pub bound : positionOf m + n < mostPosition
 
 -- the layer of phase k (layer 0 for phase 0, which does not read it) can be decoded, and has no fault
 pub record Decodable (s : Setting) (k : ℕ) : Type 0 where
@@ -79,7 +93,7 @@ pub record Stretch (s : Setting) (k from count rest : ℕ) (m : Mem) : Type 0 wh
   pub few : rest < 5
   pub room : 0 < rest → from + count < area s
   pub position : positionOf m ≡ k * area s + from
-  pub bound : positionOf m + count ≤ mostPosition
+  pub bound : positionOf m + count < mostPosition
 
 -- what the writes of a call ask: so many from the position on
 pub record Due (s : Setting) (start made : ℕ) (m : Mem) : Type 0 where
@@ -87,4 +101,4 @@ pub record Due (s : Setting) (start made : ℕ) (m : Mem) : Type 0 where
   pub layers : (t : ℕ) → t < 5 * start + made → Decodable s (t / 5 / area s)
   pub some : 0 < made → 0 < area s
   pub position : positionOf m ≡ start
-  pub bound : 5 * start + made ≤ mostPosition
+  pub bound : 5 * start + made < mostPosition

@@ -3,7 +3,8 @@ ghost use mathlib.Core.Path.{_≡_};
 ghost use Prim.Native.Nat.{_+_, _*_, _≤_};
 ghost use Rattle.layers.specs.Inputs.{inputsOf};
 ghost use Rattle.job.specs.Memory.{memOf};
-ghost use Rattle.job.specs.Call.{memoryFault, callFault, outcome, acceptedOf, callOf};
+ghost use Rattle.job.specs.Job.{memoryFault, callFault};
+ghost use Rattle.job.specs.Call.{outcome, acceptedOf, callOf};
 ghost use Rattle.job.specs.Steps.{mostPosition};
 use crate::Answer;
 use crate::phase::least;
@@ -88,7 +89,8 @@ fn accepted(
     let h = natural(height);
     let end = (natural(count) + 1) * (w * h);
     let start = mark[0] as usize;
-    let made = least(allowance as usize, 5 * (end - start));
+    let left = 5 * (end - start);
+    let made = least(allowance as usize, left);
     writes(
         w,
         h,

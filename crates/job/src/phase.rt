@@ -7,7 +7,7 @@ ghost use Rattle.pictures.specs.FlatWords.{filled};
 ghost use Rattle.job.specs.Memory.{memOf, workIn, workOf};
 ghost use Rattle.job.specs.Steps.{someOf, pixelsOf, stretchOf, phasePixel, Whole, Raised};
 use crate::store::five;
-use crate::store::store_word;
+use crate::store::step;
 use compose::Plan;
 use compose::run::span;
 use pictures::flat::widen;
@@ -149,6 +149,7 @@ fn tail(
         (Whole p channels (length (now dst)) (length (now source)) (length (now work0)) (length (now work1)))
         × (count < 5)
         × (0 < count → j < p .dw * p .dh)
+        × (Raised 0 (memOf (now work0) (now work1) (now mark)))
         ⌝ }
     ensures { λ _. ⌜
         memOf (now (work0 .exit)) (now (work1 .exit)) (now (mark .exit))
@@ -160,9 +161,10 @@ fn tail(
     }
     let mut one = [0u32; 4];
     fill(dst, channels, p, source, k, j, 1, work0, work1, &mut one);
+    let w = rgba_at(&one, 4, 0);
     let mut c = 0;
     while c < count {
-        store_word(work0, work1, mark, k, 4 * j + c, one[c]);
+        step(work0, work1, mark, k, j, w, c);
         c += 1;
     }
 }

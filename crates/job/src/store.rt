@@ -1,9 +1,11 @@
 // The one function that makes a write, and the five writes of a pixel.
 ghost use mathlib.Core.Path.{_≡_};
-ghost use Prim.Native.Nat.{_+_, _*_, _<_};
-ghost use lib.ListN.{length};
-ghost use Rattle.job.specs.Memory.{memOf, put, InRange, wordWrite, positionOf};
-ghost use Rattle.job.specs.Steps.{someOf};
+ghost use mathlib.Core.List.{[], _∷_};
+ghost use Prim.Native.Nat.{_+_, _<_};
+ghost use lib.ListN.{getD};
+ghost use Rattle.job.specs.declared.Write.the-variants.{Checkpoint};
+ghost use Rattle.job.specs.Memory.{memOf, put, InRange, wordWrite, fiveWrites, positionOf};
+ghost use Rattle.job.specs.Steps.{someOf, Room, DueWrite};
 use crate::Write;
 use pictures::Words;
 
@@ -35,44 +37,64 @@ fn word_write(k: usize, at: usize, word: u32) -> Write
     Write::Work1 { at, word }
 }
 
-pub fn store_word(
+// Channel c of a pixel's words.
+fn channel(w: Words, c: usize) -> u32
+    requires { ⌜ c < 4 ⌝ }
+    ensures { λ r. ⌜ r ≡ getD (w .r ∷ w .g ∷ w .b ∷ w .a ∷ []) c 0 ⌝ }
+{
+    if c == 0 {
+        return w.r;
+    }
+    if c == 1 {
+        return w.g;
+    }
+    if c == 2 {
+        return w.b;
+    }
+    w.a
+}
+
+// Write c of the five of pixel j of picture k: red, green, blue, alpha, then the position. Those before it must have been made: the position is
+// raised over a whole pixel. It is read back from the checkpoint, after alpha's write, so that the compiled writes keep their order.
+pub fn step(
     work0: &mut [u32],
     work1: &mut [u32],
     mark: &mut [u64],
     k: usize,
-    at: usize,
-    word: u32,
+    j: usize,
+    w: Words,
+    c: usize,
 )
-    requires { ⌜ (at < length (now work0)) × (at < length (now work1)) ⌝ }
-    ensures { λ _. ⌜ memOf (now (work0 .exit)) (now (work1 .exit)) (now (mark .exit)) ≡ put (wordWrite k at word) (memOf (now (work0 .entry)) (now (work1 .entry)) (now (mark .entry))) ⌝ }
+    requires { ⌜ DueWrite k j w c (memOf (now work0) (now work1) (now mark)) ⌝ }
+    ensures { λ _. ⌜
+        memOf (now (work0 .exit)) (now (work1 .exit)) (now (mark .exit))
+        ≡ put (getD (fiveWrites k j w (positionOf (memOf (now (work0 .entry)) (now (work1 .entry)) (now (mark .entry))) + 1)) c (Checkpoint 0)) (memOf (now (work0 .entry)) (now (work1 .entry)) (now (mark .entry)))
+        ⌝ }
 {
-    store(work0, work1, mark, word_write(k, at, word));
-}
-
-fn store_two(
-    work0: &mut [u32],
-    work1: &mut [u32],
-    mark: &mut [u64],
-    k: usize,
-    at: usize,
-    a: u32,
-    b: u32,
-)
-    requires { ⌜ (at + 1 < length (now work0)) × (at + 1 < length (now work1)) ⌝ }
-    ensures { λ _. ⌜ memOf (now (work0 .exit)) (now (work1 .exit)) (now (mark .exit)) ≡ put (wordWrite k (at + 1) b) (put (wordWrite k at a) (memOf (now (work0 .entry)) (now (work1 .entry)) (now (mark .entry)))) ⌝ }
-{
-    store_word(work0, work1, mark, k, at, a);
-    store_word(work0, work1, mark, k, at + 1, b);
-}
-
-// The five writes of pixel j of picture k: red, green, blue, alpha, then the position. It is read back after alpha's write and raised by one, so that
-// the compiled writes keep this order.
-pub fn five(work0: &mut [u32], work1: &mut [u32], mark: &mut [u64], k: usize, j: usize, w: Words)
-    requires { ⌜ (4 * j + 3 < length (now work0)) × (4 * j + 3 < length (now work1)) × (0 < length (now mark)) × (positionOf (memOf (now work0) (now work1) (now mark)) < 4611686018427387904) ⌝ }
-    ensures { λ _. ⌜ memOf (now (work0 .exit)) (now (work1 .exit)) (now (mark .exit)) ≡ someOf k j w 5 (memOf (now (work0 .entry)) (now (work1 .entry)) (now (mark .entry))) ⌝ }
-{
-    store_two(work0, work1, mark, k, 4 * j, w.r, w.g);
-    store_two(work0, work1, mark, k, 4 * j + 2, w.b, w.a);
+    if c < 4 {
+        store(work0, work1, mark, word_write(k, 4 * j + c, channel(w, c)));
+        return;
+    }
     let position = mark[0] + 1;
     store(work0, work1, mark, Write::Checkpoint { position });
+}
+
+// Red, green and blue of pixel j of picture k.
+fn three(work0: &mut [u32], work1: &mut [u32], mark: &mut [u64], k: usize, j: usize, w: Words)
+    requires { ⌜ Room j (memOf (now work0) (now work1) (now mark)) ⌝ }
+    ensures { λ _. ⌜ memOf (now (work0 .exit)) (now (work1 .exit)) (now (mark .exit)) ≡ someOf k j w 3 (memOf (now (work0 .entry)) (now (work1 .entry)) (now (mark .entry))) ⌝ }
+{
+    step(work0, work1, mark, k, j, w, 0);
+    step(work0, work1, mark, k, j, w, 1);
+    step(work0, work1, mark, k, j, w, 2);
+}
+
+// The five writes of pixel j of picture k.
+pub fn five(work0: &mut [u32], work1: &mut [u32], mark: &mut [u64], k: usize, j: usize, w: Words)
+    requires { ⌜ Room j (memOf (now work0) (now work1) (now mark)) ⌝ }
+    ensures { λ _. ⌜ memOf (now (work0 .exit)) (now (work1 .exit)) (now (mark .exit)) ≡ someOf k j w 5 (memOf (now (work0 .entry)) (now (work1 .entry)) (now (mark .entry))) ⌝ }
+{
+    three(work0, work1, mark, k, j, w);
+    step(work0, work1, mark, k, j, w, 3);
+    step(work0, work1, mark, k, j, w, 4);
 }

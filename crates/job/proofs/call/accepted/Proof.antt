@@ -57,11 +57,11 @@ mul-end-2 c = rw (wide (c .before .before), high (c .before), many c) (omega (ar
 slice-read-start : tie.Need-slice-read-start
 slice-read-start c = let s = start (c .before .before .before) in omega (arith, call-held (inputs (c .before .before .before)) (memOf (s .args .work0 .now) (s .args .work1 .now) (s .args .mark .now)) (s .pre) .mark-length)
 
-sub-least : tie.Need-sub-least
-sub-least c = let s = start (c .before .before .before) in rw (wide (c .before .before .before), high (c .before .before), many (c .before)) (call-held (inputs (c .before .before .before)) (memOf (s .args .work0 .now) (s .args .work1 .now) (s .args .mark .now)) (s .pre) .within)
+sub-left : tie.Need-sub-left
+sub-left c = let s = start (c .before .before .before) in rw (wide (c .before .before .before), high (c .before .before), many (c .before)) (call-held (inputs (c .before .before .before)) (memOf (s .args .work0 .now) (s .args .work1 .now) (s .args .mark .now)) (s .pre) .within)
 
-mul-least : tie.Need-mul-least
-mul-least c = rw (wide (c .before .before .before), high (c .before .before), many (c .before)) (omega (arith, end-small _ (none (c .before .before .before))))
+mul-left : tie.Need-mul-left
+mul-left c = rw (wide (c .before .before .before), high (c .before .before), many (c .before)) (omega (arith, end-small _ (none (c .before .before .before))))
 
 least-requires : tie.Need-least-requires
 least-requires c κs = search needs
@@ -102,8 +102,8 @@ accepted-spec =
     mul-end
     mul-end-2
     slice-read-start
-    sub-least
-    mul-least
+    sub-left
+    mul-left
     least-requires
     natural-requires-4
     writes-requires

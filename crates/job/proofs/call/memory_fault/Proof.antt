@@ -1,6 +1,6 @@
 -- `job::call::memory_fault` meets its contract. Assumes nothing.
 use borrow.Author.Tests.{eq-eqb, ne-eqb, lt-ltb, le-ltb}
-use Rattle.job.specs.Call.{memoryFault}
+use Rattle.job.specs.Job.{memoryFault}
 use borrow.Author.Needs.{needs}
 use Rattle.job.proofs.call.memory_fault.Statement.{statement}
 use Rattle.job.proofs.call.memory_fault.Tie as tie

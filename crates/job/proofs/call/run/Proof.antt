@@ -4,7 +4,7 @@ use mir.Facts.{toZ-ofZ}
 use Rattle.layers.specs.declared.Verdict.{Verdict}
 use Rattle.layers.specs.Inputs.{Inputs, inputsOf}
 use Rattle.job.specs.Memory.{memOf}
-use Rattle.job.specs.Call.{callFault}
+use Rattle.job.specs.Job.{callFault}
 use Rattle.job.proofs.Checked.{call-refused, call-made}
 use borrow.Author.Needs.{needs}
 use Rattle.job.proofs.call.run.Statement.{statement}

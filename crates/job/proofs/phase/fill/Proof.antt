@@ -2,7 +2,7 @@
 use mathlib.Core.Path.{_∙_}
 use mathlib.Core.Bool.{true, false}
 use native.Mathlib.Nat.{mul-le-mul-right, mul-comm}
-use Prim.Native.Nat.{_+_, _*_}
+use Prim.Native.Nat.{_+_}
 use borrow.Author.Tests.{eq-eqb, ne-eqb}
 use Rattle.job.proofs.Stretches.{fill-first, fill-later}
 use borrow.Author.Needs.{needs}
@@ -12,16 +12,18 @@ use Rattle.job.proofs.phase.fill.Tie as tie
 
 widen-requires : tie.Need-widen-requires
 widen-requires c κs =
-    let s = c .before .before .before .before .before .before .before in
+    let s = (c .before .before .before .before .before .before .before) in
     let h = s .pre .0 in
-    let n = s .args .p .dw * s .args .p .dh in
-    (h .some, h .most, omega (arith, h .dst-length, mul-le-mul-right (s .args .channels) (s .pre .1), mul-comm (s .args .channels) (s .args .from + s .args .count)), s .pre .2)
+    let n = mul-comm (s .args .channels) (s .args .from + s .args .count) in
+    (h .some, h .most, omega (arith, h .dst-length, mul-le-mul-right (s .args .channels) (s .pre .1), n), s .pre .2)
 
 same-length : tie.Need-same-length
 same-length c = search needs
 
 returns : tie.Need-returns
-returns c = let s = c .before .before .before .before .before .before .before .before .before .before in c .before .before .widen .ensures ∙ fill-first (s .args .dst .now) (s .args .channels) (s .args .p) (s .args .source .now) (s .args .k) (s .args .from) (s .args .count) _ (s .args .out .now) (c .before .before .before .before .if1 .taken)
+returns c =
+    let s = (c .before .before .before .before .before .before .before .before .before .before) in
+    c .before .before .widen .ensures ∙ fill-first (s .args .dst .now) (s .args .channels) (s .args .p) (s .args .source .now) (s .args .k) (s .args .from) (s .args .count) _ (s .args .out .now) (c .before .before .before .before .if1 .taken)
 
 sub-if2 : tie.Need-sub-if2
 sub-if2 c = search needs
@@ -33,7 +35,10 @@ same-length-2 : tie.Need-same-length-2
 same-length-2 c = search needs
 
 returns-2 : tie.Need-returns-2
-returns-2 c = let s = c .before .before .before .before .before .before .before .before .before .before .before in c .before .before .span .ensures ∙ fill-later (s .args .dst .now) (s .args .channels) (s .args .p) (s .args .source .now) (s .args .k) (s .args .from) (s .args .count) (s .args .work0 .now) (s .args .work1 .now) (s .args .out .now) true (c .before .before .before .before .before .if1 .left) (eq-eqb _ _ (c .before .before .before .before .if2 .taken))
+returns-2 c =
+    let s = (c .before .before .before .before .before .before .before .before .before .before .before) in
+    c .before .before .span .ensures
+    ∙ fill-later (s .args .dst .now) (s .args .channels) (s .args .p) (s .args .source .now) (s .args .k) (s .args .from) (s .args .count) _ _ (s .args .out .now) true (c .before .before .before .before .before .if1 .left) (eq-eqb _ _ (c .before .before .before .before .if2 .taken))
 
 span-requires-2 : tie.Need-span-requires-2
 span-requires-2 c κs = search needs
@@ -42,7 +47,10 @@ same-length-3 : tie.Need-same-length-3
 same-length-3 c = search needs
 
 returns-3 : tie.Need-returns-3
-returns-3 c = let s = c .before .before .before .before .before .before .before .before .before .before .before in c .before .before .span2 .ensures ∙ fill-later (s .args .dst .now) (s .args .channels) (s .args .p) (s .args .source .now) (s .args .k) (s .args .from) (s .args .count) (s .args .work0 .now) (s .args .work1 .now) (s .args .out .now) false (c .before .before .before .before .before .if1 .left) (ne-eqb _ _ (c .before .before .before .before .if2 .left))
+returns-3 c =
+    let s = (c .before .before .before .before .before .before .before .before .before .before .before) in
+    c .before .before .span2 .ensures
+    ∙ fill-later (s .args .dst .now) (s .args .channels) (s .args .p) (s .args .source .now) (s .args .k) (s .args .from) (s .args .count) _ _ (s .args .out .now) false (c .before .before .before .before .before .if1 .left) (ne-eqb _ _ (c .before .before .before .before .if2 .left))
 
 pub fill-spec : {M : Type 1} → statement M
 fill-spec =

@@ -1,7 +1,8 @@
 -- `job::phase::phase` meets its contract: the pixel after the whole ones is read as it was found, for they leave the picture beneath. Assumes nothing.
 use Rattle.job.specs.Memory.{memOf}
-use Rattle.job.proofs.Stretches.{whole-still, stretch-made}
+use Rattle.job.proofs.Stretches.{whole-still, raised-on, stretch-made}
 use borrow.Author.Needs.{needs}
+use native.Mathlib.Omega.{arith}
 use Rattle.job.proofs.phase.phase.Statement.{statement}
 use Rattle.job.proofs.phase.phase.Tie as tie
 
@@ -13,9 +14,10 @@ add-tail c = search needs
 
 tail-requires : tie.Need-tail-requires
 tail-requires c κs =
-    let s = c .before .before .before .before .before .before .before .before .before .before .before .before .before .before .before .before .before .before in
+    let s = (c .before .before .before .before .before .before .before .before .before .before .before .before .before .before .before .before .before .before) in
+    let m = memOf (s .args .work0 .now) (s .args .work1 .now) (s .args .mark .now) in
     let k = c .before .before .before .before .before .before .before .before .before .spans in
-    (whole-still _ _ _ _ _ _ _ _ (s .pre .0) (k .kept .1 .1 .1 .1 .1 .1 .1 .0) (k .kept .1 .1 .1 .1 .1 .1 .1 .1 .0), s .pre .2, s .pre .3)
+    (whole-still _ _ _ _ _ _ _ _ (s .pre .0) (k .kept .1 .1 .1 .1 .1 .1 .1 .0) (k .kept .1 .1 .1 .1 .1 .1 .1 .1 .0), s .pre .2, s .pre .3, raised-on (s .args .k) _ (s .args .from) (s .args .count) (s .args .count) 0 m _ (s .pre .4) (k .ensures) (omega arith) (omega arith))
 
 same-length : tie.Need-same-length
 same-length c = search needs
@@ -27,7 +29,10 @@ same-length-3 : tie.Need-same-length-3
 same-length-3 c = search needs
 
 returns : tie.Need-returns
-returns c = let s = c .before .before .before .before .before .before .before .before .before .before .before .before .before .before .before .before .before .before .before .before .before .before .before .before .before in stretch-made (s .args .dst .now) (s .args .channels) (s .args .p) (s .args .source .now) (s .args .k) (s .args .from) (s .args .count) (s .args .rest) (memOf (s .args .work0 .now) (s .args .work1 .now) (s .args .mark .now)) _ _ (c .before .before .before .before .before .before .before .before .before .before .before .before .before .before .before .before .spans .ensures) (c .before .before .before .before .before .before .tail .ensures)
+returns c =
+    let s = (c .before .before .before .before .before .before .before .before .before .before .before .before .before .before .before .before .before .before .before .before .before .before .before .before .before) in
+    let m = memOf (s .args .work0 .now) (s .args .work1 .now) (s .args .mark .now) in
+    stretch-made (s .args .dst .now) (s .args .channels) (s .args .p) (s .args .source .now) (s .args .k) (s .args .from) (s .args .count) (s .args .rest) m _ _ (c .before .before .before .before .before .before .before .before .before .before .before .before .before .before .before .before .spans .ensures) (c .before .before .before .before .before .before .tail .ensures)
 
 pub phase-spec : {M : Type 1} → statement M
 phase-spec =

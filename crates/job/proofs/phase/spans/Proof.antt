@@ -1,13 +1,21 @@
--- `job::phase::spans` meets its contract. The invariant: memory is what i whole pixels of the phase leave, and the lists have kept their lengths. The measure is what is left of the pixels. Assumes nothing.
+-- `job::phase::spans` meets its contract.
+-- The invariant: memory is what i whole pixels of the phase leave, and the lists have kept their lengths. The measure is what is left of the pixels. Assumes nothing.
 use Prim.Native.Nat.{ℕ, _-_, _≤_}
 use mathlib.Core.Path.{_≡_, refl, sym, ap, _∙_}
 use lib.ListN.{length}
-use Rattle.job.specs.Memory.{memOf, workOf}
+use Rattle.pictures.specs.declared.Words.{Words}
+use Rattle.job.specs.Memory.{Mem, memOf, workOf}
 use Rattle.job.specs.Steps.{pixelsOf, phasePixel}
 use Rattle.job.proofs.Stretches.{pixels-none, span-more, part-of, some-of, whole-still, raised-on}
 use native.Mathlib.Omega.{arith}
 use Rattle.job.proofs.phase.spans.Statement.{statement}
 use Rattle.job.proofs.phase.spans.Tie as tie
+
+-- The invariant: memory is what i whole pixels of the phase leave, and the lists have kept their lengths. The measure is what is left of the pixels. Assumes nothing.
+
+-- The invariant: memory is what i whole pixels of the phase leave, and the lists have kept their lengths. The measure is what is left of the pixels. Assumes nothing.
+
+-- The invariant: memory is what i whole pixels of the phase leave, and the lists have kept their lengths. The measure is what is left of the pixels. Assumes nothing.
 
 abbrev Inv-loop : tie.InvT-loop
 Inv-loop dst channels p source k from count work0₀ work1₀ mark₀ buf₀ i₀ work0 work1 mark buf i =
@@ -21,8 +29,24 @@ Inv-loop dst channels p source k from count work0₀ work1₀ mark₀ buf₀ i�
 abbrev μ-loop : tie.MeasureT-loop
 μ-loop dst channels p source k from count work0₀ work1₀ mark₀ buf₀ i₀ work0 work1 mark buf i = count - i
 
+abbrev memory : tie.Start Inv-loop μ-loop → Mem
+memory s = memOf (s .args .work0 .now) (s .args .work1 .now) (s .args .mark .now)
+
+abbrev found : tie.At-loop Inv-loop μ-loop → Mem
+found c = memOf (c .loop .work0) (c .loop .work1) (c .loop .mark)
+
+-- pixel j of the phase
+abbrev pixel : tie.Start Inv-loop μ-loop → ℕ → Words
+pixel s = phasePixel (s .args .dst .now) (s .args .channels) (s .args .p) (s .args .source .now) (workOf (s .args .k - 1) (memory s)) (s .args .k)
+
+-- the span that is next
+part : (c : tie.After-least Inv-loop μ-loop) → (c .least .result ≤ 64) × (c .least .result ≤ c .before .before .before .before .before .before .before .before .args .count - c .before .before .loop .i)
+part c = part-of 64 _ _ (c .least .ensures)
+
+-- pixel j of the phase
+-- the span that is next
 loop-holds : tie.Need-loop-holds Inv-loop μ-loop
-loop-holds c = let s = c .before .before .before .before .before in (omega arith, pixels-none (s .args .k) _ (s .args .from) (memOf (s .args .work0 .now) (s .args .work1 .now) (s .args .mark .now)), refl, refl, refl, refl)
+loop-holds c = let s = (c .before .before .before .before .before) in (omega arith, pixels-none (s .args .k) (pixel s) (s .args .from) (memory s), refl, refl, refl, refl)
 
 sub-least : tie.Need-sub-least Inv-loop μ-loop
 sub-least c = omega arith
@@ -38,9 +62,9 @@ slice-aggregate-fill c = sym (c .before .before .before .before .before .loop .i
 
 fill-requires : tie.Need-fill-requires Inv-loop μ-loop
 fill-requires c κs =
-    let s = c .before .before .before .before .before .before .before .before .before .before .before in
+    let s = (c .before .before .before .before .before .before .before .before .before .before .before) in
     let v = c .before .before .before .before .before .loop .inv in
-    let r = part-of 64 (s .args .count - c .before .before .before .before .before .loop .i) _ (c .before .before .before .least .ensures) in
+    let r = part (c .before .before .before) in
     (whole-still _ _ _ _ _ _ _ _ (s .pre .0) (v .2) (v .3), omega (arith, s .pre .1, r .1), omega (arith, v .5, r .0))
 
 slice-aggregate-write-out : tie.Need-slice-aggregate-write-out Inv-loop μ-loop
@@ -51,39 +75,39 @@ add-write-out c = let s = c .before .before .before .before .before .before .bef
 
 write-out-requires : tie.Need-write-out-requires Inv-loop μ-loop
 write-out-requires c κs =
-    let s = c .before .before .before .before .before .before .before .before .before .before .before .before .before .before .before .before .before in
-    let l = c .before .before .before .before .before .before .before .before .before .before .before .loop in
-    let v = l .inv in
+    let s = (c .before .before .before .before .before .before .before .before .before .before .before .before .before .before .before .before .before) in
+    let l = (c .before .before .before .before .before .before .before .before .before .before .before) in
+    let v = l .loop .inv in
     let h = s .pre .0 in
-    let r = part-of 64 (s .args .count - c .before .before .before .before .before .before .before .before .before .before .before .loop .i) _ (c .before .before .before .before .before .before .before .before .before .least .ensures) in (
+    let r = part (c .before .before .before .before .before .before .before .before .before) in (
       omega (arith, c .before .before .before .before .before .fill .kept .1 .1 .1 .1 .1 .1 .1 .1 .1 .0, v .5, r .0),
       omega (arith, s .pre .1, r .1, h .work0-length, v .2),
       omega (arith, s .pre .1, r .1, h .work1-length, v .3),
-      raised-on (s .args .k) _ (s .args .from) (l .i) (s .args .count) _ (memOf (s .args .work0 .now) (s .args .work1 .now) (s .args .mark .now)) (memOf (l .work0) (l .work1) (l .mark)) (s .pre .2) (v .1) (v .0) (r .1),
+      raised-on (s .args .k) (pixel s) (s .args .from) (l .loop .i) (s .args .count) _ (memory s) (found l) (s .pre .2) (v .1) (v .0) (r .1),
     )
 
 add-i : tie.Need-add-i Inv-loop μ-loop
 add-i c =
-    let s = c .before .before .before .before .before .before .before .before .before .before .before .before .before .before .before .before .before .before .before .before .before .before .before .before in
-    let r = part-of 64 (s .args .count - c .before .before .before .before .before .before .before .before .before .before .before .before .before .before .before .before .before .before .loop .i) _ (c .before .before .before .before .before .before .before .before .before .before .before .before .before .before .before .before .least .ensures) in
-    omega (arith, s .pre .1, s .pre .0 .work0-length, r .1, c .before .before .before .before .before .before .before .before .before .before .before .before .before .before .before .before .before .loop-test, c .before .before .before .before .before .before .before .before .before .before .before .before .before .before .before .before .before .before .loop .inv .0)
+    let s = (c .before .before .before .before .before .before .before .before .before .before .before .before .before .before .before .before .before .before .before .before .before .before .before .before) in
+    omega (arith, s .pre .1, s .pre .0 .work0-length, part (c .before .before .before .before .before .before .before .before .before .before .before .before .before .before .before .before) .1, c .before .before .before .before .before .before .before .before .before .before .before .before .before .before .before .before .before .loop-test, c .before .before .before .before .before .before .before .before .before .before .before .before .before .before .before .before .before .before .loop .inv .0)
 
 loop-less : tie.Need-loop-less Inv-loop μ-loop
 loop-less c =
-    let s = c .before .before .before .before .before .before .before .before .before .before .before .before .before .before .before .before .before .before .before .before .before .before .before .before in
-    let r = part-of 64 (s .args .count - c .before .before .before .before .before .before .before .before .before .before .before .before .before .before .before .before .before .before .loop .i) _ (c .before .before .before .before .before .before .before .before .before .before .before .before .before .before .before .before .least .ensures) in
+    let s = (c .before .before .before .before .before .before .before .before .before .before .before .before .before .before .before .before .before .before .before .before .before .before .before .before) in
     let g = some-of 64 (s .args .count - c .before .before .before .before .before .before .before .before .before .before .before .before .before .before .before .before .before .before .loop .i) _ (c .before .before .before .before .before .before .before .before .before .before .before .before .before .before .before .before .least .ensures) (omega arith) (omega (arith, c .before .before .before .before .before .before .before .before .before .before .before .before .before .before .before .before .before .loop-test)) in
-    omega (arith, r .1, g, c .before .before .before .before .before .before .before .before .before .before .before .before .before .before .before .before .before .loop-test)
+    omega (arith, part (c .before .before .before .before .before .before .before .before .before .before .before .before .before .before .before .before) .1, g, c .before .before .before .before .before .before .before .before .before .before .before .before .before .before .before .before .before .loop-test)
 
 loop-again : tie.Need-loop-again Inv-loop μ-loop
 loop-again c =
-    let s = c .before .before .before .before .before .before .before .before .before .before .before .before .before .before .before .before .before .before .before .before .before .before .before .before in
-    let l = c .before .before .before .before .before .before .before .before .before .before .before .before .before .before .before .before .before .before .loop in
-    let v = l .inv in
-    let r = part-of 64 (s .args .count - c .before .before .before .before .before .before .before .before .before .before .before .before .before .before .before .before .before .before .loop .i) _ (c .before .before .before .before .before .before .before .before .before .before .before .before .before .before .before .before .least .ensures) in
-    let f = c .before .before .before .before .before .before .write-out in (
-      omega (arith, r .1, v .0),
-      span-more (s .args .dst .now) (s .args .channels) (s .args .p) (s .args .source .now) (s .args .k) (s .args .from) (l .i) (c .before .before .before .before .before .before .before .before .before .before .before .before .before .before .before .before .least .result) (l .buf) (c .before .before .before .before .before .before .before .before .before .before .before .before .fill .last .1 .1 .1 .1 .1 .1 .1 .1 .1 .0) (memOf (s .args .work0 .now) (s .args .work1 .now) (s .args .mark .now)) (memOf (l .work0) (l .work1) (l .mark)) (memOf (f .last .1 .1 .1 .1 .0) (f .last .1 .1 .1 .1 .1 .0) (f .last .1 .1 .1 .1 .1 .1 .0)) (v .1) (c .before .before .before .before .before .before .before .before .before .before .before .before .fill .ensures) (f .ensures),
+    let s = (c .before .before .before .before .before .before .before .before .before .before .before .before .before .before .before .before .before .before .before .before .before .before .before .before) in
+    let l = (c .before .before .before .before .before .before .before .before .before .before .before .before .before .before .before .before .before .before) in
+    let v = l .loop .inv in
+    let n = c .before .before .before .before .before .before .before .before .before .before .before .before .before .before .before .before .least .result in
+    let f = c .before .before .before .before .before .before .write-out in
+    let m′ = memOf (f .last .1 .1 .1 .1 .0) (f .last .1 .1 .1 .1 .1 .0) (f .last .1 .1 .1 .1 .1 .1 .0) in
+    let buf = c .before .before .before .before .before .before .before .before .before .before .before .before .fill .last .1 .1 .1 .1 .1 .1 .1 .1 .1 .0 in (
+      omega (arith, part (c .before .before .before .before .before .before .before .before .before .before .before .before .before .before .before .before) .1, v .0),
+      span-more (s .args .dst .now) (s .args .channels) (s .args .p) (s .args .source .now) (s .args .k) (s .args .from) (l .loop .i) n (l .loop .buf) buf (memory s) (found l) m′ (v .1) (c .before .before .before .before .before .before .before .before .before .before .before .before .fill .ensures) (f .ensures),
       f .kept .1 .1 .1 .1 .0 ∙ v .2,
       f .kept .1 .1 .1 .1 .1 .0 ∙ v .3,
       f .kept .1 .1 .1 .1 .1 .1 .0 ∙ v .4,
@@ -101,10 +125,10 @@ same-length-3 c = c .before .loop .inv .4
 
 returns : tie.Need-returns Inv-loop μ-loop
 returns c =
-    let s = c .before .before .before .before .before .before .before in
+    let s = (c .before .before .before .before .before .before .before) in
     let v = c .before .loop .inv in
     let e : c .before .loop .i ≡ s .args .count = omega (arith, v .0) in
-    v .1 ∙ ap (λ (x : ℕ). pixelsOf (s .args .k) (phasePixel (s .args .dst .now) (s .args .channels) (s .args .p) (s .args .source .now) (workOf (s .args .k - 1) (memOf (s .args .work0 .now) (s .args .work1 .now) (s .args .mark .now))) (s .args .k)) (s .args .from) x (memOf (s .args .work0 .now) (s .args .work1 .now) (s .args .mark .now))) e
+    v .1 ∙ ap (λ (x : ℕ). pixelsOf (s .args .k) (pixel s) (s .args .from) x (memory s)) e
 
 pub spans-spec : {M : Type 1} → statement M
 spans-spec =

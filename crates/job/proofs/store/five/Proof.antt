@@ -1,44 +1,32 @@
--- `job::store::five` meets its contract. The position that is read back is the one at entry: four words leave it. Assumes nothing.
-use Prim.Native.Nat.{ℕ}
-use mathlib.Core.Path.{_≡_, ap}
-use mathlib.Core.List.{List}
-use lib.ListN.{getD}
-use Rattle.job.specs.Memory.{memOf}
-use Rattle.job.proofs.Writes.{four-mark, five-made}
+-- `job::store::five` meets its contract: after each write, memory is what so many of the five leave. Assumes nothing.
+use Rattle.job.specs.Memory.{Mem, memOf}
+use Rattle.job.proofs.Writes.{Begun, begun-due, begun-more}
 use borrow.Author.Needs.{needs}
 use native.Mathlib.Omega.{arith}
 use Rattle.job.proofs.store.five.Statement.{statement}
 use Rattle.job.proofs.store.five.Tie as tie
 
-mul-store-two : tie.Need-mul-store-two
-mul-store-two c = search needs
+abbrev memory : tie.Start → Mem
+memory s = memOf (s .args .work0 .now) (s .args .work1 .now) (s .args .mark .now)
 
-store-two-requires : tie.Need-store-two-requires
-store-two-requires c κs = search needs
+-- after the colours, after alpha and after the position
+colours : (c : tie.After-three) → let s = c .before .before .before .before .before .before .before in Begun (s .args .k) (s .args .j) (s .args .w) 3 (memory s) (memOf (c .three .last .0) (c .three .last .1 .0) (c .three .last .1 .1 .0))
+colours c = record { same = c .three .ensures; length0 = c .three .kept .0; length1 = c .three .kept .1 .0; length-mark = c .three .kept .1 .1 .0 }
 
-mul-store-two-2 : tie.Need-mul-store-two-2
-mul-store-two-2 c = search needs
+alpha : (c : tie.After-step) → let s = c .before .before .before .before .before .before .before .before .before .before .before .before .before .before .before .before .before in Begun (s .args .k) (s .args .j) (s .args .w) 4 (memory s) (memOf (c .step .last .0) (c .step .last .1 .0) (c .step .last .1 .1 .0))
+alpha c = begun-more (omega arith) (colours (c .before .before .before .before .before .before .before .before .before .before)) _ (c .step .ensures) (c .step .kept .0) (c .step .kept .1 .0) (c .step .kept .1 .1 .0)
 
-add-store-two : tie.Need-add-store-two
-add-store-two c = search needs
+end : (c : tie.After-step2) → let s = c .before .before .before .before .before .before .before .before .before .before .before .before .before .before .before .before .before .before .before .before .before .before .before .before .before .before .before in Begun (s .args .k) (s .args .j) (s .args .w) 5 (memory s) (memOf (c .step2 .last .0) (c .step2 .last .1 .0) (c .step2 .last .1 .1 .0))
+end c = begun-more (omega arith) (alpha (c .before .before .before .before .before .before .before .before .before .before)) _ (c .step2 .ensures) (c .step2 .kept .0) (c .step2 .kept .1 .0) (c .step2 .kept .1 .1 .0)
 
-store-two-requires-2 : tie.Need-store-two-requires-2
-store-two-requires-2 c κs = search needs
+three-requires : tie.Need-three-requires
+three-requires c κs = search needs
 
-slice-read-position : tie.Need-slice-read-position
-slice-read-position c = search needs
+step-requires : tie.Need-step-requires
+step-requires c κs = begun-due (omega arith) (colours (c .before .before .before .before .before .before .before .before .before)) ((c .before .before .before .before .before .before .before .before .before .before .before .before .before .before .before .before) .pre)
 
-add-position : tie.Need-add-position
-add-position c =
-    let s = c .before .before .before .before .before .before .before .before .before .before .before .before .before .before .before .before .before .before .before .before .before .before .before .before in
-    let t = c .before .before .before .before .before .before .before .before .before .before .before .before .before .before .before .before .before .store-two in
-    let u = c .before .before .before .before .before .before .before .store-two2 in
-    let e : getD (u .last .1 .1 .0) 0 0 ≡ getD (s .args .mark .now) 0 0 =
-    ap (λ (l : List ℕ). getD l 0 0) (four-mark (s .args .k) _ _ _ _ _ _ _ _ (memOf (s .args .work0 .now) (s .args .work1 .now) (s .args .mark .now)) (memOf (t .last .0) (t .last .1 .0) (t .last .1 .1 .0)) (memOf (u .last .0) (u .last .1 .0) (u .last .1 .1 .0)) (t .ensures) (u .ensures)) in
-    omega (arith, e, s .pre)
-
-store-requires : tie.Need-store-requires
-store-requires c κs = search needs
+step-requires-2 : tie.Need-step-requires-2
+step-requires-2 c κs = begun-due (omega arith) (alpha (c .before .before .before .before .before .before .before .before .before)) ((c .before .before .before .before .before .before .before .before .before .before .before .before .before .before .before .before .before .before .before .before .before .before .before .before .before .before) .pre)
 
 same-length : tie.Need-same-length
 same-length c = search needs
@@ -50,22 +38,15 @@ same-length-3 : tie.Need-same-length-3
 same-length-3 c = search needs
 
 returns : tie.Need-returns
-returns c =
-    let s = c .before .before .before .before .before .before .before .before .before .before .before .before .before .before .before .before .before .before .before .before .before .before .before .before .before .before .before .before .before .before .before .before .before .before in
-    five-made (s .args .k) (s .args .j) (s .args .w) (memOf (s .args .work0 .now) (s .args .work1 .now) (s .args .mark .now)) _ _ _ (c .before .before .before .before .before .before .before .before .before .before .before .before .before .before .before .before .before .before .before .before .before .before .before .before .before .before .before .store-two .ensures) (c .before .before .before .before .before .before .before .before .before .before .before .before .before .before .before .before .before .store-two2 .ensures) (c .before .before .before .before .before .before .store .ensures)
+returns c = end (c .before .before .before .before .before .before) .same
 
 pub five-spec : {M : Type 1} → statement M
 five-spec =
     tie.close
     (tie.spec
-    mul-store-two
-    store-two-requires
-    mul-store-two-2
-    add-store-two
-    store-two-requires-2
-    slice-read-position
-    add-position
-    store-requires
+    three-requires
+    step-requires
+    step-requires-2
     same-length
     same-length-2
     same-length-3

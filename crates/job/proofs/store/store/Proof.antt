@@ -1,53 +1,63 @@
 -- `job::store::store` meets its contract. Assumes nothing.
-use mathlib.Core.Path.{sym, ap, subst}
+use mathlib.Core.Path.{_≡_, sym, ap, subst}
 use Rattle.job.specs.declared.Write.{Write}
-use Rattle.job.specs.Memory.{memOf, put, InRange}
+use Rattle.job.specs.Memory.{Mem, memOf, put, InRange}
 use borrow.Author.Needs.{needs}
 use native.Mathlib.Omega.{arith}
 use Rattle.job.proofs.store.store.Statement.{statement}
 use Rattle.job.proofs.store.store.Tie as tie
 
+abbrev memory : tie.Start → Mem
+memory s = memOf (s .args .work0 .now) (s .args .work1 .now) (s .args .mark .now)
+
+-- what the write names is there, and is what is changed
+named : (s : tie.Start) (w : Write) → s .args .w ≡ w → InRange (memory s) w
+named s w e = subst (InRange (memory s)) e (s .pre)
+
+made : (s : tie.Start) (w : Write) → s .args .w ≡ w → put w (memory s) ≡ put (s .args .w) (memory s)
+made s w e = sym (ap (λ (x : Write). put x (memory s)) e)
+
 enum-known-w : tie.Need-enum-known-w
 enum-known-w c = search needs
 
 mul-work0 : tie.Need-mul-work0
-mul-work0 c = let s = c .before .before .before in omega (arith, subst (λ (x : Write). InRange (memOf (s .args .work0 .now) (s .args .work1 .now) (s .args .mark .now)) x) (c .before .w .given .1) (s .pre), s .good)
+mul-work0 c = let s = (c .before .before .before) in omega (arith, named s _ (c .before .w .given .1), s .good)
 
 slice-write-work0 : tie.Need-slice-write-work0
-slice-write-work0 c = let s = c .before .before .before in subst (λ (x : Write). InRange (memOf (s .args .work0 .now) (s .args .work1 .now) (s .args .mark .now)) x) (c .before .w .given .1) (s .pre)
+slice-write-work0 c = named (c .before .before .before) _ (c .before .w .given .1)
 
 enum-known-w-2 : tie.Need-enum-known-w-2
 enum-known-w-2 c = search needs
 
 mul-work1 : tie.Need-mul-work1
-mul-work1 c = let s = c .before .before .before in omega (arith, subst (λ (x : Write). InRange (memOf (s .args .work0 .now) (s .args .work1 .now) (s .args .mark .now)) x) (c .before .w2 .given .1) (s .pre), s .good)
+mul-work1 c = let s = (c .before .before .before) in omega (arith, named s _ (c .before .w2 .given .1), s .good)
 
 slice-write-work1 : tie.Need-slice-write-work1
-slice-write-work1 c = let s = c .before .before .before in subst (λ (x : Write). InRange (memOf (s .args .work0 .now) (s .args .work1 .now) (s .args .mark .now)) x) (c .before .w2 .given .1) (s .pre)
+slice-write-work1 c = named (c .before .before .before) _ (c .before .w2 .given .1)
 
 enum-known-w-3 : tie.Need-enum-known-w-3
 enum-known-w-3 c = search needs
 
 slice-write-mark : tie.Need-slice-write-mark
-slice-write-mark c = let s = c .before .before .before in subst (λ (x : Write). InRange (memOf (s .args .work0 .now) (s .args .work1 .now) (s .args .mark .now)) x) (c .before .w3 .given .1) (s .pre)
+slice-write-mark c = named (c .before .before .before) _ (c .before .w3 .given .1)
 
 same-length : tie.Need-same-length
 same-length c = search needs
 
 returns : tie.Need-returns
-returns c = let s = c .before .before .before in sym (ap (λ (x : Write). put x (memOf (s .args .work0 .now) (s .args .work1 .now) (s .args .mark .now))) (c .before .w .given .1))
+returns c = made (c .before .before .before) _ (c .before .w .given .1)
 
 same-length-2 : tie.Need-same-length-2
 same-length-2 c = search needs
 
 returns-2 : tie.Need-returns-2
-returns-2 c = let s = c .before .before .before in sym (ap (λ (x : Write). put x (memOf (s .args .work0 .now) (s .args .work1 .now) (s .args .mark .now))) (c .before .w2 .given .1))
+returns-2 c = made (c .before .before .before) _ (c .before .w2 .given .1)
 
 same-length-3 : tie.Need-same-length-3
 same-length-3 c = search needs
 
 returns-3 : tie.Need-returns-3
-returns-3 c = let s = c .before .before .before in sym (ap (λ (x : Write). put x (memOf (s .args .work0 .now) (s .args .work1 .now) (s .args .mark .now))) (c .before .w3 .given .1))
+returns-3 c = made (c .before .before .before) _ (c .before .w3 .given .1)
 
 pub store-spec : {M : Type 1} → statement M
 store-spec =

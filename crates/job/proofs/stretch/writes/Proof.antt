@@ -1,15 +1,26 @@
--- `job::stretch::writes` meets its contract. The invariant: memory is what a call allowed `done` writes leaves, a whole number of pixels while writes are left, and the lists have kept their lengths. The measure is what is left of the writes. Assumes nothing.
+-- `job::stretch::writes` meets its contract.
+-- The invariant: memory is what a call allowed `done` writes leaves (proofs/Uses), a whole number of pixels while writes are left, and the lists have
+-- kept their lengths. The measure is what is left of the writes. Assumes nothing.
 use Prim.Native.Nat.{ℕ, _+_, _-_, _*_, _/_, _%_, _<_, _≤_}
 use mathlib.Core.Path.{_≡_, refl, ap, _∙_}
 use native.Mathlib.Nat.{mod-lt}
 use lib.ListN.{length}
-use Rattle.job.specs.Memory.{memOf, positionOf}
-use Rattle.job.specs.Call.{setting, runOf}
+use Rattle.job.specs.Memory.{Mem, memOf, positionOf}
+use Rattle.job.specs.Call.{Setting, setting, runOf}
 use Rattle.job.proofs.Runs.{run-none}
-use Rattle.job.proofs.Dues.{area-small, sized-still, due-left, due-some, due-stretch, due-fives, due-run, due-position}
+use Rattle.job.proofs.Dues.{area-small, sized-still, Turn, due-left, due-some, due-stretch, due-fives, due-run, due-position}
 use native.Mathlib.Omega.{arith}
 use Rattle.job.proofs.stretch.writes.Statement.{statement}
 use Rattle.job.proofs.stretch.writes.Tie as tie
+
+-- The invariant: memory is what a call allowed `done` writes leaves (proofs/Uses), a whole number of pixels while writes are left, and the lists have
+-- kept their lengths. The measure is what is left of the writes. Assumes nothing.
+
+-- The invariant: memory is what a call allowed `done` writes leaves (proofs/Uses), a whole number of pixels while writes are left, and the lists have
+-- kept their lengths. The measure is what is left of the writes. Assumes nothing.
+
+-- The invariant: memory is what a call allowed `done` writes leaves (proofs/Uses), a whole number of pixels while writes are left, and the lists have
+-- kept their lengths. The measure is what is left of the writes. Assumes nothing.
 
 abbrev Inv-loop : tie.InvT-loop
 Inv-loop w h channels dst table args samples start made work0₀ work1₀ mark₀ n done₀ work0 work1 mark done =
@@ -24,93 +35,81 @@ Inv-loop w h channels dst table args samples start made work0₀ work1₀ mark�
 abbrev μ-loop : tie.MeasureT-loop
 μ-loop w h channels dst table args samples start made work0₀ work1₀ mark₀ n done₀ work0 work1 mark done = made - done
 
+abbrev memory : tie.Start Inv-loop μ-loop → Mem
+memory s = memOf (s .args .work0 .now) (s .args .work1 .now) (s .args .mark .now)
+
+abbrev found : tie.At-loop Inv-loop μ-loop → Mem
+found c = memOf (c .loop .work0) (c .loop .work1) (c .loop .mark)
+
+-- what the writes are made from
+abbrev job : tie.Start Inv-loop μ-loop → Setting
+job s = setting (s .args .w) (s .args .h) (s .args .channels) (s .args .dst .now) (s .args .table .now) (s .args .args .now) (s .args .samples .now)
+
+-- the stretch that is next
+turn : (c : tie.After-least Inv-loop μ-loop) → let s = c .before .before .before .before .before .before .before .before .before in let l = c .before .before in Turn (job s) (s .args .start) (s .args .made) (l .loop .done) (c .least .result) (memory s) (found l)
+turn c =
+    let s = c .before .before .before .before .before .before .before .before .before in
+    let l = c .before .before in
+    let v = l .loop .inv in
+    let t : l .loop .done < s .args .made = omega (arith, c .before .loop-test) in
+    record {
+      due = s .pre;
+      sized = sized-still (job s) (memory s) (found l) (s .pre .sized) (v .4) (v .5) (v .6);
+      left = t;
+      fives = v .1 t;
+      at = v .3;
+      taken = c .least .ensures;
+    }
+
 mul-n : tie.Need-mul-n Inv-loop μ-loop
-mul-n c = let s = c .before .before .before .before .before .before in omega (arith, area-small (setting (s .args .w) (s .args .h) (s .args .channels) (s .args .dst .now) (s .args .table .now) (s .args .args .now) (s .args .samples .now)) (memOf (s .args .work0 .now) (s .args .work1 .now) (s .args .mark .now)) (s .pre .sized))
+mul-n c = let s = (c .before .before .before .before .before .before) in omega (arith, area-small (job s) (memory s) (s .pre .sized))
 
 loop-holds : tie.Need-loop-holds Inv-loop μ-loop
-loop-holds c = let s = c .before .before .before .before .before .before in (omega arith, λ t. omega arith, run-none (setting (s .args .w) (s .args .h) (s .args .channels) (s .args .dst .now) (s .args .table .now) (s .args .args .now) (s .args .samples .now)) (5 * s .args .start) (memOf (s .args .work0 .now) (s .args .work1 .now) (s .args .mark .now)), omega (arith, s .pre .position), refl, refl, refl)
+loop-holds c = let s = (c .before .before .before .before .before .before) in (omega arith, λ t. omega arith, run-none (job s) (5 * s .args .start) (memory s), omega (arith, s .pre .position), refl, refl, refl)
 
 add-at : tie.Need-add-at Inv-loop μ-loop
-add-at c =
-    let s = c .before .before .before .before .before .before .before .before in
-    let l = c .before .loop in
-    let t : l .done < s .args .made = omega (arith, c .loop-test) in
-    omega (arith, s .pre .bound)
+add-at c = omega (arith, (c .before .before .before .before .before .before .before .before) .pre .bound, c .loop-test)
 
 div-k : tie.Need-div-k Inv-loop μ-loop
-div-k c =
-    let s = c .before .before .before .before .before .before .before .before in
-    let l = c .before .loop in
-    let t : l .done < s .args .made = omega (arith, c .loop-test) in
-    s .pre .some (omega arith)
+div-k c = (c .before .before .before .before .before .before .before .before) .pre .some (omega (arith, c .loop-test))
 
 rem-from : tie.Need-rem-from Inv-loop μ-loop
-rem-from c =
-    let s = c .before .before .before .before .before .before .before .before in
-    let l = c .before .loop in
-    let t : l .done < s .args .made = omega (arith, c .loop-test) in
-    s .pre .some (omega arith)
+rem-from c = (c .before .before .before .before .before .before .before .before) .pre .some (omega (arith, c .loop-test))
 
 sub-least : tie.Need-sub-least Inv-loop μ-loop
 sub-least c = omega arith
 
 sub-least-2 : tie.Need-sub-least-2 Inv-loop μ-loop
 sub-least-2 c =
-    let s = c .before .before .before .before .before .before .before .before in
-    let l = c .before .loop in
-    let t : l .done < s .args .made = omega (arith, c .loop-test) in
-    let b = mod-lt (s .args .start + l .done / 5) (s .pre .some (omega arith)) in omega (arith, b)
+    let s = (c .before .before .before .before .before .before .before .before) in
+    omega (arith, mod-lt (s .args .start + c .before .loop .done / 5) (s .pre .some (omega (arith, c .loop-test))))
 
 mul-least : tie.Need-mul-least Inv-loop μ-loop
-mul-least c =
-    let s = c .before .before .before .before .before .before .before .before in
-    let l = c .before .loop in
-    let t : l .done < s .args .made = omega (arith, c .loop-test) in
-    omega (arith, area-small (setting (s .args .w) (s .args .h) (s .args .channels) (s .args .dst .now) (s .args .table .now) (s .args .args .now) (s .args .samples .now)) (memOf (s .args .work0 .now) (s .args .work1 .now) (s .args .mark .now)) (s .pre .sized))
+mul-least c = let s = (c .before .before .before .before .before .before .before .before) in omega (arith, area-small (job s) (memory s) (s .pre .sized))
 
 least-requires : tie.Need-least-requires Inv-loop μ-loop
 least-requires c κs = tt
 
 stretch-requires : tie.Need-stretch-requires Inv-loop μ-loop
-stretch-requires c κs =
-    let s = c .before .before .before .before .before .before .before .before .before .before .before .before in
-    let l = c .before .before .before .before .before .loop in
-    let v = l .inv in
-    let t : l .done < s .args .made = omega (arith, c .before .before .before .before .loop-test) in
-    let z = sized-still (setting (s .args .w) (s .args .h) (s .args .channels) (s .args .dst .now) (s .args .table .now) (s .args .args .now) (s .args .samples .now)) (memOf (s .args .work0 .now) (s .args .work1 .now) (s .args .mark .now)) (memOf (l .work0) (l .work1) (l .mark)) (s .pre .sized) (v .4) (v .5) (v .6) in
-    due-stretch (setting (s .args .w) (s .args .h) (s .args .channels) (s .args .dst .now) (s .args .table .now) (s .args .args .now) (s .args .samples .now)) (s .args .start) (s .args .made) (l .done) (c .before .before .before .least .result) (memOf (s .args .work0 .now) (s .args .work1 .now) (s .args .mark .now)) (memOf (l .work0) (l .work1) (l .mark)) (s .pre) z t (v .1 t) (v .3) (c .before .before .before .least .ensures)
+stretch-requires c κs = due-stretch (turn (c .before .before .before))
 
 add-done : tie.Need-add-done Inv-loop μ-loop
-add-done c =
-    let s = c .before .before .before .before .before .before .before .before .before .before .before .before .before .before .before .before .before .before .before in
-    let l = c .before .before .before .before .before .before .before .before .before .before .before .before .loop in
-    let v = l .inv in
-    let t : l .done < s .args .made = omega (arith, c .before .before .before .before .before .before .before .before .before .before .before .loop-test) in
-    let z = sized-still (setting (s .args .w) (s .args .h) (s .args .channels) (s .args .dst .now) (s .args .table .now) (s .args .args .now) (s .args .samples .now)) (memOf (s .args .work0 .now) (s .args .work1 .now) (s .args .mark .now)) (memOf (l .work0) (l .work1) (l .mark)) (s .pre .sized) (v .4) (v .5) (v .6) in
-    omega (arith, due-left (setting (s .args .w) (s .args .h) (s .args .channels) (s .args .dst .now) (s .args .table .now) (s .args .args .now) (s .args .samples .now)) (s .args .start) (s .args .made) (l .done) (c .before .before .before .before .before .before .before .before .before .before .least .result) (memOf (s .args .work0 .now) (s .args .work1 .now) (s .args .mark .now)) (memOf (l .work0) (l .work1) (l .mark)) (s .pre) z t (v .1 t) (v .3) (c .before .before .before .before .before .before .before .before .before .before .least .ensures), s .pre .bound)
+add-done c = omega (arith, due-left (turn (c .before .before .before .before .before .before .before .before .before .before)), (c .before .before .before .before .before .before .before .before .before .before .before .before .before .before .before .before .before .before .before) .pre .bound, c .before .before .before .before .before .before .before .before .before .before .before .loop-test)
 
 loop-less : tie.Need-loop-less Inv-loop μ-loop
-loop-less c =
-    let s = c .before .before .before .before .before .before .before .before .before .before .before .before .before .before .before .before .before .before .before in
-    let l = c .before .before .before .before .before .before .before .before .before .before .before .before .loop in
-    let v = l .inv in
-    let t : l .done < s .args .made = omega (arith, c .before .before .before .before .before .before .before .before .before .before .before .loop-test) in
-    let z = sized-still (setting (s .args .w) (s .args .h) (s .args .channels) (s .args .dst .now) (s .args .table .now) (s .args .args .now) (s .args .samples .now)) (memOf (s .args .work0 .now) (s .args .work1 .now) (s .args .mark .now)) (memOf (l .work0) (l .work1) (l .mark)) (s .pre .sized) (v .4) (v .5) (v .6) in
-    omega (arith, due-left (setting (s .args .w) (s .args .h) (s .args .channels) (s .args .dst .now) (s .args .table .now) (s .args .args .now) (s .args .samples .now)) (s .args .start) (s .args .made) (l .done) (c .before .before .before .before .before .before .before .before .before .before .least .result) (memOf (s .args .work0 .now) (s .args .work1 .now) (s .args .mark .now)) (memOf (l .work0) (l .work1) (l .mark)) (s .pre) z t (v .1 t) (v .3) (c .before .before .before .before .before .before .before .before .before .before .least .ensures), due-some (setting (s .args .w) (s .args .h) (s .args .channels) (s .args .dst .now) (s .args .table .now) (s .args .args .now) (s .args .samples .now)) (s .args .start) (s .args .made) (l .done) (c .before .before .before .before .before .before .before .before .before .before .least .result) (memOf (s .args .work0 .now) (s .args .work1 .now) (s .args .mark .now)) (memOf (l .work0) (l .work1) (l .mark)) (s .pre) z t (v .1 t) (v .3) (c .before .before .before .before .before .before .before .before .before .before .least .ensures))
+loop-less c = let u = turn (c .before .before .before .before .before .before .before .before .before .before) in omega (arith, due-left u, due-some u, c .before .before .before .before .before .before .before .before .before .before .before .loop-test)
 
 loop-again : tie.Need-loop-again Inv-loop μ-loop
 loop-again c =
-    let s = c .before .before .before .before .before .before .before .before .before .before .before .before .before .before .before .before .before .before .before in
-    let l = c .before .before .before .before .before .before .before .before .before .before .before .before .loop in
-    let v = l .inv in
-    let t : l .done < s .args .made = omega (arith, c .before .before .before .before .before .before .before .before .before .before .before .loop-test) in
-    let z = sized-still (setting (s .args .w) (s .args .h) (s .args .channels) (s .args .dst .now) (s .args .table .now) (s .args .args .now) (s .args .samples .now)) (memOf (s .args .work0 .now) (s .args .work1 .now) (s .args .mark .now)) (memOf (l .work0) (l .work1) (l .mark)) (s .pre .sized) (v .4) (v .5) (v .6) in
+    let l = (c .before .before .before .before .before .before .before .before .before .before .before .before) in
+    let v = l .loop .inv in
+    let u = turn (c .before .before .before .before .before .before .before .before .before .before) in
     let f = c .before .before .before .before .before .before .stretch in
     let m′ = memOf (f .last .1 .1 .1 .1 .1 .1 .1 .1 .1 .1 .1 .0) (f .last .1 .1 .1 .1 .1 .1 .1 .1 .1 .1 .1 .1 .0) (f .last .1 .1 .1 .1 .1 .1 .1 .1 .1 .1 .1 .1 .1 .0) in (
-      omega (arith, due-left (setting (s .args .w) (s .args .h) (s .args .channels) (s .args .dst .now) (s .args .table .now) (s .args .args .now) (s .args .samples .now)) (s .args .start) (s .args .made) (l .done) (c .before .before .before .before .before .before .before .before .before .before .least .result) (memOf (s .args .work0 .now) (s .args .work1 .now) (s .args .mark .now)) (memOf (l .work0) (l .work1) (l .mark)) (s .pre) z t (v .1 t) (v .3) (c .before .before .before .before .before .before .before .before .before .before .least .ensures)),
-      due-fives (setting (s .args .w) (s .args .h) (s .args .channels) (s .args .dst .now) (s .args .table .now) (s .args .args .now) (s .args .samples .now)) (s .args .start) (s .args .made) (l .done) (c .before .before .before .before .before .before .before .before .before .before .least .result) (memOf (s .args .work0 .now) (s .args .work1 .now) (s .args .mark .now)) (memOf (l .work0) (l .work1) (l .mark)) (s .pre) z t (v .1 t) (v .3) (c .before .before .before .before .before .before .before .before .before .before .least .ensures),
-      due-run (setting (s .args .w) (s .args .h) (s .args .channels) (s .args .dst .now) (s .args .table .now) (s .args .args .now) (s .args .samples .now)) (s .args .start) (s .args .made) (l .done) (c .before .before .before .before .before .before .before .before .before .before .least .result) (memOf (s .args .work0 .now) (s .args .work1 .now) (s .args .mark .now)) (memOf (l .work0) (l .work1) (l .mark)) (s .pre) z t (v .1 t) (v .3) (c .before .before .before .before .before .before .before .before .before .before .least .ensures) m′ (v .2) (f .ensures .0),
-      due-position (setting (s .args .w) (s .args .h) (s .args .channels) (s .args .dst .now) (s .args .table .now) (s .args .args .now) (s .args .samples .now)) (s .args .start) (s .args .made) (l .done) (c .before .before .before .before .before .before .before .before .before .before .least .result) (memOf (s .args .work0 .now) (s .args .work1 .now) (s .args .mark .now)) (memOf (l .work0) (l .work1) (l .mark)) (s .pre) z t (v .1 t) (v .3) (c .before .before .before .before .before .before .before .before .before .before .least .ensures) m′ (f .ensures .1),
+      omega (arith, due-left u, c .before .before .before .before .before .before .before .before .before .before .before .loop-test),
+      due-fives u,
+      due-run u m′ (v .2) (f .ensures .0),
+      due-position u m′ (f .ensures .1),
       f .kept .1 .1 .1 .1 .1 .1 .1 .1 .1 .1 .1 .0 ∙ v .4,
       f .kept .1 .1 .1 .1 .1 .1 .1 .1 .1 .1 .1 .1 .0 ∙ v .5,
       f .kept .1 .1 .1 .1 .1 .1 .1 .1 .1 .1 .1 .1 .1 .0 ∙ v .6,
@@ -127,10 +126,10 @@ same-length-3 c = c .before .loop .inv .6
 
 returns : tie.Need-returns Inv-loop μ-loop
 returns c =
-    let s = c .before .before .before .before .before .before .before .before in
+    let s = (c .before .before .before .before .before .before .before .before) in
     let v = c .before .loop .inv in
     let e : c .before .loop .done ≡ s .args .made = omega (arith, v .0) in
-    v .2 ∙ ap (λ (x : ℕ). runOf (setting (s .args .w) (s .args .h) (s .args .channels) (s .args .dst .now) (s .args .table .now) (s .args .args .now) (s .args .samples .now)) (5 * s .args .start) x (memOf (s .args .work0 .now) (s .args .work1 .now) (s .args .mark .now))) e
+    v .2 ∙ ap (λ (x : ℕ). runOf (job s) (5 * s .args .start) x (memory s)) e
 
 pub writes-spec : {M : Type 1} → statement M
 writes-spec =

@@ -1,0 +1,47 @@
+-- A job by its inputs (document 01): its numbers, the checks of its memory, 9 and 10, which come after those of its inputs, and its answers.
+-- Definitions only.
+use mathlib.Core.Bool.{Bool, false, cond}
+use Prim.Native.Nat.{ℕ, _+_, _*_}
+use lib.Dec.{eqb, ltb}
+use lib.ListN.{length}
+use Rattle.layers.specs.declared.Verdict.{Verdict}
+use Rattle.layers.specs.Cells.{natOf}
+use Rattle.layers.specs.Inputs.{Inputs, verdict, jobFault}
+use Rattle.job.specs.declared.Answer.{Answer}
+use Rattle.job.specs.Memory.{Mem, positionOf}
+
+-- ---- a job's numbers
+
+-- the pixels of the destination, and of each picture (document 01: N)
+abbrev pub pixelCount : Inputs → ℕ
+pixelCount i = natOf (i .width) * natOf (i .height)
+
+abbrev pub layerCount : Inputs → ℕ
+layerCount i = natOf (i .count)
+
+-- the position of a finished job
+abbrev pub endOf : Inputs → ℕ
+endOf i = (layerCount i + 1) * pixelCount i
+
+-- ---- the checks
+
+-- 9, WORK, and 10, MARK; 0 where there is neither. The checkpoint is one number, its position.
+unfoldable pub memoryFault : (pixels end : ℕ) → Mem → ℕ
+memoryFault pixels end m =
+    cond (eqb (length (m .work0)) (4 * pixels))
+    (cond (eqb (length (m .work1)) (4 * pixels))
+    (cond (eqb (length (m .mark)) 1)
+    (cond (ltb end (positionOf m)) 10 0)
+    10) 9) 9
+
+-- the first fault of a call: of its inputs, else of its memory
+unfoldable pub callFault : Inputs → Mem → Verdict
+callFault i m = cond (eqb (jobFault i .number) 0) (verdict (memoryFault (pixelCount i) (endOf i) m) 0) (jobFault i)
+
+-- ---- the answers
+
+abbrev pub acceptance : (stores : ℕ) → (finished : Bool) → Answer
+acceptance stores finished = record { number = 0; layer = 0; stores = stores; finished = finished }
+
+abbrev pub refusal : Verdict → Answer
+refusal v = record { number = v .number; layer = v .layer; stores = 0; finished = false }
