@@ -17,7 +17,7 @@ use Rattle.compose.specs.Compose.{planOf, sourceOf, composedBy}
 use Rattle.job.specs.Memory.{Mem, stored, workIn, workOf, positionOf}
 use Rattle.job.specs.Call.{Setting, area, pixelOf, runOf}
 use Rattle.job.specs.Steps.{someOf, pixelsOf, stretchOf, phasePixel, Whole, Raised, Room}
-use Rattle.compose.proofs.Parts.{flat-pixel}
+use Rattle.pictures.proofs.FlatWords.{flat-pixel}
 use Rattle.job.proofs.Writes.{some-mark, five-position, five-mark}
 use Rattle.job.proofs.Runs.{run-on, Under, under-pixel, under-write, uses}
 
