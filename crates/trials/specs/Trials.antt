@@ -2,7 +2,7 @@
 -- Floats are given by their words.
 use Prim.Native.Nat.{ℕ}
 use Prim.Native.String.{String}
-use mathlib.Core.Bool.{Bool, true, false, _&&_}
+use mathlib.Core.Bool.{Bool, true, false, cond, _&&_}
 use mathlib.Core.List.{List, [], _∷_}
 use lib.Dec.{T, eqb}
 use lib.ListN.{getD}
@@ -27,6 +27,12 @@ use Rattle.pictures.specs.declared.Rgba.{Rgba}
 use Rattle.blends.specs.Blends.{colorBurnOf}
 use Rattle.pixels.specs.Channel.{overUnionOf}
 use Rattle.pixels.specs.Pixel.{overBy, unused, pixelOf}
+use Rattle.layers.specs.Cells.{natOf, outsideZ, badChannels, badShape}
+use Rattle.layers.specs.Faults.{badPlacing, badSource, layerFault}
+use Rattle.layers.specs.Inputs.{Inputs, inputsOf, badStack, badDst, rowsFault, jobFault}
+use Rattle.job.specs.Memory.{Mem, memOf, positionOf}
+use Rattle.job.specs.Job.{memoryFault, callFault}
+use Rattle.job.specs.Call.{writeAt, runOf, acceptedOf, callOf}
 
 -- a case: what a definition is applied to, and what it must give
 pub data Case : Type 0 where
@@ -42,6 +48,8 @@ pub data Case : Type 0 where
   -- a name's number, or its fault's
   name : String → ℕ → Case
   unknown : String → ℕ → Case
+  -- calls of a job with so many stores: of each the stores made, the mark after it, and 1 where it finished
+  job : List ℕ → List ℕ → Case
 
 -- the pixel of four words
 abbrev pub pixelAt : List ℕ → Rgba
@@ -64,6 +72,28 @@ abbrev pub isOperator : Named → ℕ → Bool
 isOperator (Operator m) n = eqb m n
 isOperator Unknown n = false
 
+-- a destination of 2 by 1 pixels and one layer, Over with all channels, on work buffers that hold anything
+abbrev pub twoByOne : Inputs
+twoByOne =
+    inputsOf (pos 2) (pos 1) (pos 1) (0x3f00_0000 ∷ 0x3f80_0000 ∷ []) (pos 1)
+    (pos 0 ∷ pos 0 ∷ pos 0 ∷ pos 0 ∷ pos 62 ∷ pos 0 ∷ pos 1 ∷ pos 1 ∷ pos 1 ∷ pos 0 ∷ [])
+    (0 ∷ 0 ∷ 0 ∷ 0 ∷ [])
+    (0x3e80_0000 ∷ [])
+
+abbrev pub begun : Mem
+begun = memOf (9 ∷ 9 ∷ 9 ∷ 9 ∷ 9 ∷ 9 ∷ 9 ∷ 9 ∷ []) (7 ∷ 7 ∷ 7 ∷ 7 ∷ 7 ∷ 7 ∷ 7 ∷ 7 ∷ []) (0 ∷ [])
+
+unfoldable pub answers : Mem → List ℕ → List ℕ
+answers m [] = []
+answers m (n ∷ ns) =
+    let o = callOf twoByOne n m in o .answer .stores ∷ positionOf (o .mem) ∷ cond (o .answer .finished) 1 0 ∷ answers (o .mem) ns
+
+abbrev pub sameList : List ℕ → List ℕ → Bool
+sameList [] [] = true
+sameList [] (y ∷ ys) = false
+sameList (x ∷ xs) [] = false
+sameList (x ∷ xs) (y ∷ ys) = eqb x y && sameList xs ys
+
 abbrev pub holds : Case → Bool
 holds (wraps v r) = eqb (wordOf (wrapOf (valueOf v))) r
 holds (roots v r) = eqb (wordOf (sqrtOf (valueOf v))) r
@@ -72,6 +102,7 @@ holds (pixel op s d r) = sameWords (pixelOf op unused (pixelAt s) (pixelAt d)) r
 holds (centre dst src r) = sameInteger (placementOf Centre dst dst src src (pos 0) (pos 0) .x) r
 holds (tile offset width column r) = isAt (spotOf true width (pos column -ℤ pos offset)) r
 holds (name text r) = isOperator (fromName (bytes text)) r
+holds (job allowances r) = sameList (answers begun allowances) r
 holds (unknown text r) = eqb (nameFault (fromName (bytes text))) r
 
 abbrev pub all : List Case → Bool
@@ -109,8 +140,10 @@ table =
     ∷ name "SRC over" 0
     ∷ name "minus" 23
     ∷ unknown "" 3
+    -- tray 2 by 1, one layer, calls of 7, 7, 100 stores: made 7, 7, 10; marks 1, 2, 4; finished at the last
+    ∷ job (7 ∷ 7 ∷ 100 ∷ []) (7 ∷ 1 ∷ 0 ∷ 7 ∷ 2 ∷ 0 ∷ 10 ∷ 4 ∷ 1 ∷ [])
     ∷ []
 
 pub trials : T (all table)
-unfolding wrapOf remEuclidOf sqrtOf byteOf smallerOf clampOf colorBurnOf overUnionOf overBy placementOf spotOf fromName entries isKept lower ofBits toBits add sub mul div rem lt le eq isNan
+unfolding wrapOf remEuclidOf sqrtOf byteOf smallerOf clampOf colorBurnOf overUnionOf overBy placementOf spotOf fromName entries isKept lower answers callOf acceptedOf callFault memoryFault jobFault badStack badDst rowsFault layerFault badPlacing badSource badShape badChannels outsideZ natOf runOf writeAt ofBits toBits add sub mul div rem lt le eq isNan
 trials = tt
