@@ -13,7 +13,7 @@ use Rattle.float_steps.specs.Notation.{_⊖_}
 use Rattle.float_steps.specs.Sign.{absOf}
 use Rattle.ieee_laws.specs.Same.{plain, Same}
 use Rattle.ieee_laws.specs.Size.{AtMost, Unsigned}
-use Rattle.ieee_laws.proofs.Number.{zero-exp}
+use Rattle.float_steps.proofs.Number.{zero-exp}
 use Rattle.ieee_laws.proofs.Difference.{sub-flips}
 
 -- the sign's bit is above the rest

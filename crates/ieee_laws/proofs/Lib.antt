@@ -1,4 +1,3 @@
-pub mod Number
 pub mod Commute
 pub mod One
 pub mod Zero

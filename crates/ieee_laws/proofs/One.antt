@@ -6,7 +6,7 @@ use native.Mathlib.Nat.{mul-one, one-mul}
 use lib.Dec.{T}
 use lib.Ieee.{Float, nan, inf, fin, Format, up, down, unlike, round, mul, div, fits}
 use Rattle.ieee_laws.specs.Size.{one}
-use Rattle.ieee_laws.proofs.Number.{round-own}
+use Rattle.float_steps.proofs.Number.{round-own}
 use Rattle.ieee_laws.proofs.Commute.{mul-commutes}
 
 pub unlike-false : (s : Bool) → unlike s false ≡ s

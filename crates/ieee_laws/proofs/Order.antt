@@ -11,7 +11,7 @@ use lib.Ieee.{Float, nan, inf, fin, Format, up, down, below, level, lt, eq, isNa
 use lib.Ieee.Fits.{up-pos, down-pos, and-l, and-r}
 use borrow.Author.Tests.{ltb-true, ltb-false, eqb-true, lt-ltb, le-ltb, eq-eqb}
 use Rattle.ieee_laws.specs.Same.{plain, Same, Zero}
-use Rattle.ieee_laws.proofs.Number.{one-way}
+use Rattle.float_steps.proofs.Number.{one-way}
 
 -- ---- sizes
 pub no-size : (m : ℕ) (e d : ℤ) → m * up e * down d ≡ 0 → m ≡ 0

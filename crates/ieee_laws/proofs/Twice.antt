@@ -11,7 +11,7 @@ use lib.Ieee.Exact.{HasValue}
 use lib.Ieee.Scale.{round-same}
 use borrow.Author.Tests.{eq-eqb, ne-eqb}
 use Rattle.ieee_laws.specs.Size.{two, doubles}
-use Rattle.ieee_laws.proofs.Number.{held, round-scaled}
+use Rattle.float_steps.proofs.Number.{held, round-scaled}
 use Rattle.ieee_laws.proofs.Commute.{mul-commutes}
 
 -- ---- a product by the fractions that its factors equal

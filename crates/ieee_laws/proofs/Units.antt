@@ -16,7 +16,7 @@ use lib.Ieee.Order.{drop, round-mono}
 use lib.Ieee.Scale.{finite, grid, round-same, round-val, round-under}
 use borrow.Author.Tests.{le-ltb}
 use Rattle.ieee_laws.specs.Size.{two, AtMost, Unsigned, doubles, Counts, Near}
-use Rattle.ieee_laws.proofs.Number.{held, lift, lift-is, round-own}
+use Rattle.float_steps.proofs.Number.{held, lift, lift-is, round-own}
 use Rattle.ieee_laws.proofs.Twice.{values, twice-value}
 use Rattle.ieee_laws.proofs.Bound.{at-most}
 use Rattle.ieee_laws.proofs.Half.{round-near, unit-at-most}

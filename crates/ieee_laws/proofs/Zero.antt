@@ -10,7 +10,7 @@ use lib.Ieee.Fits.{up-pos, down-pos}
 use lib.Ieee.Scale.{round-same, finite}
 use borrow.Author.Tests.{lt-ltb, eqb-true}
 use Rattle.ieee_laws.specs.Same.{plain, Same, Zero}
-use Rattle.ieee_laws.proofs.Number.{round-own}
+use Rattle.float_steps.proofs.Number.{round-own}
 use Rattle.ieee_laws.proofs.Commute.{mul-commutes, add-commutes}
 
 -- ---- the value with +0 for -0
