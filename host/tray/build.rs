@@ -1,0 +1,27 @@
+//! Links libtray.a. TRAY_LIB names the folder that has it; without it target/staticlib of the repository is taken,
+//! where `rt staticlib tray` puts it.
+
+use std::env;
+use std::path::PathBuf;
+
+fn main() {
+    println!("cargo:rerun-if-env-changed=TRAY_LIB");
+    let here = PathBuf::from(env::var("CARGO_MANIFEST_DIR").unwrap());
+    let folder = match env::var("TRAY_LIB") {
+        Ok(folder) => PathBuf::from(folder),
+        Err(_) => here.join("../../target/staticlib"),
+    };
+    let archive = folder.join("libtray.a");
+    if !archive.exists() {
+        eprintln!(
+            "{} is not there: run `rt staticlib tray`, or set TRAY_LIB to the folder that has it",
+            archive.display()
+        );
+        std::process::exit(1);
+    }
+    let folder = folder.canonicalize().unwrap();
+    println!("cargo:rerun-if-changed={}", archive.display());
+    println!("cargo:rustc-link-search=native={}", folder.display());
+    println!("cargo:rustc-link-lib=static=tray");
+    println!("cargo:rustc-link-lib=m");
+}

@@ -1,0 +1,124 @@
+//! Why a call is refused.
+
+use std::error::Error;
+use std::fmt;
+
+/// The refusals by their numbers.
+#[derive(Clone, Copy, Debug, PartialEq, Eq, Hash)]
+pub enum Fault {
+    /// The count of layers is not 1 to 16, or the table or the arguments have another length than it asks for.
+    Stack = 1,
+    /// A side or the channels of the destination, or the count of its samples.
+    Tray = 2,
+    /// An operator's number or name that is not known.
+    Operator = 3,
+    /// Interpolate or Blur, which are not carried.
+    Curve = 4,
+    /// A gravity or an offset.
+    Placing = 5,
+    /// Flags that are not 0 to 63.
+    Flags = 6,
+    /// Start, sides or channels of a source, or a source that the samples do not hold.
+    Source = 7,
+    /// A count of arguments that is not 0 to 4.
+    Arguments = 8,
+    /// A work buffer, or the output of a single composition, of another length.
+    Work = 9,
+    /// The mark is not one number, or lies beyond the job's end.
+    Mark = 10,
+    /// Narrowing: the wanted channels, the input's length or the output's length.
+    Narrow = 11,
+}
+
+impl Fault {
+    pub const ALL: [Fault; 11] = [
+        Fault::Stack,
+        Fault::Tray,
+        Fault::Operator,
+        Fault::Curve,
+        Fault::Placing,
+        Fault::Flags,
+        Fault::Source,
+        Fault::Arguments,
+        Fault::Work,
+        Fault::Mark,
+        Fault::Narrow,
+    ];
+
+    pub fn number(self) -> u64 {
+        self as u64
+    }
+
+    pub fn word(self) -> &'static str {
+        match self {
+            Fault::Stack => "STACK",
+            Fault::Tray => "TRAY",
+            Fault::Operator => "OPERATOR",
+            Fault::Curve => "CURVE",
+            Fault::Placing => "PLACING",
+            Fault::Flags => "FLAGS",
+            Fault::Source => "SOURCE",
+            Fault::Arguments => "ARGUMENTS",
+            Fault::Work => "WORK",
+            Fault::Mark => "MARK",
+            Fault::Narrow => "NARROW",
+        }
+    }
+
+    /// What is wrong, in a few words.
+    pub fn meaning(self) -> &'static str {
+        match self {
+            Fault::Stack => "a job has 1 to 16 layers, 10 numbers and 4 arguments each",
+            Fault::Tray => "sides are 0 to 2048, channels 1, 3 or 4, samples width x height x channels",
+            Fault::Operator => "no such operator",
+            Fault::Curve => "Interpolate and Blur are not carried",
+            Fault::Placing => "gravity is 0 to 9, offsets lie within 1000000",
+            Fault::Flags => "flags are 0 to 63",
+            Fault::Source => "the source's start, sides or channels, or it ends beyond the samples",
+            Fault::Arguments => "a layer has 0 to 4 arguments",
+            Fault::Work => "a work buffer has 4 x width x height samples",
+            Fault::Mark => "the mark is one number, at most (layers + 1) x width x height",
+            Fault::Narrow => "1, 3 or 4 channels from whole pixels of four, into an output of that length",
+        }
+    }
+
+    /// Whether the fault belongs to one layer.
+    pub fn has_layer(self) -> bool {
+        (3..=8).contains(&self.number())
+    }
+
+    /// The library's answer: 0, or the number of a fault.
+    pub(crate) fn check(number: u64) -> Result<(), Fault> {
+        match number {
+            0 => Ok(()),
+            n => Err(*Fault::ALL.get(n as usize - 1).expect("the library answers 0 to 11")),
+        }
+    }
+}
+
+impl fmt::Display for Fault {
+    fn fmt(&self, f: &mut fmt::Formatter) -> fmt::Result {
+        write!(f, "refused: {} {}: {}", self.number(), self.word(), self.meaning())
+    }
+}
+
+impl Error for Fault {}
+
+/// A refused job call: the fault, and the layer that has it, counted from 0 (0 where none is concerned).
+#[derive(Clone, Copy, Debug, PartialEq, Eq, Hash)]
+pub struct Refusal {
+    pub fault: Fault,
+    pub layer: u64,
+}
+
+impl fmt::Display for Refusal {
+    fn fmt(&self, f: &mut fmt::Formatter) -> fmt::Result {
+        let Refusal { fault, layer } = self;
+        match fault.has_layer() {
+            true => write!(f, "refused: {} {} in layer {layer}: {}", fault.number(), fault.word(), fault.meaning()),
+            false => fault.fmt(f),
+        }
+    }
+}
+
+impl Error for Refusal {}

@@ -1,0 +1,43 @@
+//! The resumable job.
+
+use crate::raw;
+use crate::{Fault, Inputs, Refusal};
+
+/// What a job's calls write: two work buffers of 4 × width × height words each, and the mark, a list of one number that
+/// begins at 0. The buffers may begin with any content.
+#[derive(Debug)]
+pub struct Memory<'a> {
+    pub work0: &'a mut [u32],
+    pub work1: &'a mut [u32],
+    pub mark: &'a mut [u64],
+}
+
+/// An accepted call: the stores it made, and whether the job is finished.
+#[derive(Clone, Copy, Debug, PartialEq, Eq)]
+pub struct Progress {
+    pub stores: u64,
+    pub finished: bool,
+}
+
+/// Goes on from the mark with up to `allowance` stores, five a pixel. `u64::MAX` runs to the end.
+pub fn job(inputs: &Inputs, allowance: u64, memory: Memory) -> Result<Progress, Refusal> {
+    let answer = raw::job(inputs, allowance, memory);
+    match Fault::check(answer.number) {
+        Ok(()) => Ok(Progress { stores: answer.stores, finished: answer.finished != 0 }),
+        Err(fault) => Err(Refusal { fault, layer: answer.layer }),
+    }
+}
+
+/// The mark of a finished job: a pixel of the widened destination and of each layer counts one.
+pub fn total(width: u64, height: u64, layers: u64) -> u64 {
+    (layers + 1) * width * height
+}
+
+/// The phase that a mark lies in and its pixels written so far. Phase 0 widens the destination, phase k writes layer
+/// k - 1 into work buffer k mod 2. A finished job's picture is in work buffer (layers mod 2).
+pub fn phase(mark: u64, width: u64, height: u64) -> (u64, u64) {
+    match width * height {
+        0 => (0, 0),
+        pixels => (mark / pixels, mark % pixels),
+    }
+}

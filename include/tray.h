@@ -1,0 +1,130 @@
+/* tray.h: the C interface of libtray.a, the proved tray compositor.
+ *
+ * Build the library with `rt staticlib tray`; link target/staticlib/libtray.a and -lm.
+ *
+ * Words. A picture, the source samples and the arguments are lists of words: the bits of binary32 floats. A host passes
+ * its float buffer's pointer as it is (as uint32_t *). Pixels go row by row, samples of a pixel side by side: 1 channel
+ * is gray, 3 are red, green and blue, 4 have alpha too. Colours are straight, not multiplied by alpha. A sample that a
+ * call computes and that is NaN is stored as 7FC00000; one that it keeps or copies keeps all its bits.
+ *
+ * What is lent. A list is lent as a pointer and its count of elements, for the time of the call; no pointer is kept.
+ * Pointers to const are only read. The others are written only as each function says, and not at all by a call that is
+ * refused (its answer is not 0), but for a job call's three answers. The pointer of an empty list is not read, but must
+ * not be null and must be aligned for its type, as all pointers must. Lists that a call writes must overlap neither each
+ * other nor any list that it reads.
+ *
+ * Calls have no state of their own and take no lock, allocate nothing and always return. Calls on different lists may
+ * run at the same time.
+ *
+ * Answers. 0: done. Otherwise the number of the first fault, in the order 1, 2, then 3 to 8 layer by layer, then 9, 10:
+ *
+ *    1  STACK      layers not 1 to 16; table not 10 or arguments not 4 a layer
+ *    2  TRAY       a side of the destination not 0 to 2048; channels not 1, 3, 4; samples not width x height x channels
+ *    3  OPERATOR   number not 0 to 69, or a name not known
+ *    4  CURVE      operator 43 (Interpolate) or 67 (Blur), which are not carried
+ *    5  PLACING    gravity not 0 to 9; an offset outside -1000000 to 1000000
+ *    6  FLAGS      not 0 to 63
+ *    7  SOURCE     start negative; side or channels as in 2; start + width x height x channels over the samples' count
+ *    8  ARGUMENTS  count not 0 to 4
+ *    9  WORK       a work buffer, or a single composition's output, is not 4 x width x height words
+ *   10  MARK       the mark is not one number, or more than (layers + 1) x width x height
+ *   11  NARROW     wanted channels not 1, 3, 4; input no multiple of 4 words; output not input / 4 x wanted
+ */
+#ifndef TRAY_H
+#define TRAY_H
+
+#include <stddef.h>
+#include <stdint.h>
+
+#ifdef __cplusplus
+extern "C" {
+#endif
+
+enum tray_fault {
+    TRAY_DONE = 0,
+    TRAY_STACK = 1,
+    TRAY_TRAY = 2,
+    TRAY_OPERATOR = 3,
+    TRAY_CURVE = 4,
+    TRAY_PLACING = 5,
+    TRAY_FLAGS = 6,
+    TRAY_SOURCE = 7,
+    TRAY_ARGUMENTS = 8,
+    TRAY_WORK = 9,
+    TRAY_MARK = 10,
+    TRAY_NARROW = 11
+};
+
+/* The layer table: ten numbers a layer, the lowest layer first. */
+enum tray_column {
+    TRAY_COLUMN_OPERATOR = 0,   /* from tray_from_name */
+    TRAY_COLUMN_GRAVITY = 1,    /* 0 none; 1 to 9 north west, north, north east, west, centre, east, south west, .. */
+    TRAY_COLUMN_RIGHT = 2,      /* the offset from there, in pixels */
+    TRAY_COLUMN_DOWN = 3,
+    TRAY_COLUMN_FLAGS = 4,      /* a sum of enum tray_flag */
+    TRAY_COLUMN_FIRST = 5,      /* the source's first sample in `samples` */
+    TRAY_COLUMN_WIDTH = 6,      /* the source's sides and channels (1, 3 or 4) */
+    TRAY_COLUMN_HEIGHT = 7,
+    TRAY_COLUMN_CHANNELS = 8,
+    TRAY_COLUMN_COUNT = 9,      /* how many of the layer's four arguments are given; the others are not read */
+    TRAY_COLUMNS = 10
+};
+
+enum tray_flag {
+    TRAY_TILE = 1,              /* the source repeats in all directions */
+    TRAY_OVERLAY = 2,           /* off the source the operator runs on (0, 0, 0, 0); without it the pixel is kept */
+    TRAY_RED = 4,               /* a channel whose flag is off keeps the destination's bits */
+    TRAY_GREEN = 8,
+    TRAY_BLUE = 16,
+    TRAY_ALPHA = 32
+};
+
+/* The operator that a name spells: 0 and its number, 0 to 69, in *operator; or 3, and *operator as it was. '-', '_' and
+ * space are dropped, A to Z lowered; the rest must be one of the 70 names or 13 aliases. `name` has no ending 0. */
+uint64_t tray_from_name(const uint8_t *name, size_t name_length, uint64_t *operator_number);
+
+/* One layer on one destination: 0 and the whole picture, four channels, in `out`; or a number from 1 to 9, and `out` as
+ * it was. The table has 10 numbers, args 4 words, out 4 x width x height. */
+uint64_t tray_compose(
+    int64_t width, int64_t height, int64_t channels, const uint32_t *dst, size_t dst_length,
+    const int64_t *table, size_t table_length, const uint32_t *args, size_t args_length,
+    const uint32_t *samples, size_t samples_length,
+    uint32_t *out, size_t out_length);
+
+/* A picture of four channels narrowed to `wanted` of them, as words or as bytes 0 to 255: 0 and the whole output; or 11,
+ * and the output as it was. One channel is the pixel's gray, three leave out alpha. */
+uint64_t tray_narrow(int64_t wanted, const uint32_t *input, size_t input_length, uint32_t *out, size_t out_length);
+uint64_t tray_narrow_bytes(int64_t wanted, const uint32_t *input, size_t input_length, uint8_t *out, size_t out_length);
+
+/* A call of a job: goes on from the mark with up to `allowance` stores (UINT64_MAX: to the end).
+ *
+ * With N = width x height, phase 0 stores the destination, widened to four channels, in work0; phase k, 1 to layers,
+ * composites layer k - 1 on work (k - 1) mod 2 into work k mod 2. A pixel is five stores: red, green, blue, alpha, then
+ * the mark, raised by one. So a call gains floor(allowance / 5) pixels, or all left if fewer.
+ *
+ * Answers: a number from 0 to 10; *layer, the layer at fault counted from 0, and 0 where none is concerned; *stores, the
+ * stores made; *finished, 1 when the mark is (layers + 1) x N and the picture stands in work (layers mod 2), else 0. A
+ * refused call answers 0 stores, not finished, and leaves work0, work1 and mark as they were.
+ *
+ * Taking a job up. A job begins with *mark = 0 and any content in work0 and work1. A worker may be stopped anywhere in a
+ * call, SIGKILL included: what it leaves is what a call allowed fewer stores leaves, and the next call with the same
+ * inputs goes on from there. The finished picture has the same bits however often this happens. For this
+ *  - the host sees that a stopped worker is gone (waited for, not only signalled) before the next call starts: a job's
+ *    calls never overlap;
+ *  - all of a job's calls get the same inputs;
+ *  - work0, work1 and mark are lent to no other job, and written by nothing else, from the first call to the last;
+ *  - where the three live in shared memory or a mapped file, a killed process loses nothing. What a machine without
+ *    power loses is the file system's affair. */
+uint64_t tray_job(
+    int64_t width, int64_t height, int64_t channels, const uint32_t *dst, size_t dst_length,
+    int64_t layers, const int64_t *table, size_t table_length, const uint32_t *args, size_t args_length,
+    const uint32_t *samples, size_t samples_length,
+    uint64_t allowance,
+    uint32_t *work0, size_t work0_length, uint32_t *work1, size_t work1_length, uint64_t *mark, size_t mark_length,
+    uint64_t *layer, uint64_t *stores, uint64_t *finished);
+
+#ifdef __cplusplus
+}
+#endif
+
+#endif
