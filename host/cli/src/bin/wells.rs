@@ -1,0 +1,129 @@
+//! Draws the pictures of the demonstration: an empty 96-well tray, the wells' own pictures, each a disc of a soil extract
+//! whose blue grows with its phosphate, and six files of sixteen layers that lay them, two columns each.
+//!
+//!     wells FOLDER
+
+#[path = "../pfm.rs"]
+#[allow(dead_code)]
+mod pfm;
+#[path = "../picture.rs"]
+#[allow(dead_code)]
+mod picture;
+#[path = "../png_file.rs"]
+#[allow(dead_code)]
+mod png_file;
+
+use anyhow::{Context, Result};
+use std::fs::{self, File};
+use std::path::Path;
+
+const COLUMNS: usize = 12;
+const ROWS: usize = 8;
+const PITCH: usize = 96;
+const MARGIN: usize = 48;
+const WELL: usize = 84;
+const RADIUS: f32 = 39.0;
+
+/// The operator of each row. Those in capitals have their source as a PFM: no alpha, white around the disc.
+const OPERATORS: [&str; ROWS] =
+    ["over", "MULTIPLY", "atop", "color-burn", "DARKEN", "linear-burn", "darken-intensity", "hard-mix"];
+
+/// A number from 0 to 1 that looks random and is always the same.
+fn noise(x: usize, y: usize, seed: usize) -> f32 {
+    let mut n = (x as u64) << 40 ^ (y as u64) << 20 ^ seed as u64 ^ 0x9e37_79b9_7f4a_7c15;
+    for _ in 0..3 {
+        n = (n ^ n >> 31).wrapping_mul(0xbf58_476d_1ce4_e5b9);
+    }
+    (n >> 40) as f32 / (1 << 24) as f32
+}
+
+/// How much of a disc with this radius covers a pixel whose middle lies this far from its middle.
+fn cover(distance: f32, radius: f32) -> f32 {
+    (radius + 0.5 - distance).clamp(0.0, 1.0)
+}
+
+fn distance(x: usize, y: usize, middle: (f32, f32)) -> f32 {
+    (x as f32 + 0.5 - middle.0).hypot(y as f32 + 0.5 - middle.1)
+}
+
+/// The empty tray: light plastic with a rim and a floor for each well.
+fn plate(x: usize, y: usize, width: usize, height: usize) -> [f32; 3] {
+    let slope = 0.03 * (x as f32 / width as f32 + y as f32 / height as f32);
+    let edge = x.min(y).min(width - 1 - x).min(height - 1 - y) as f32;
+    let mut light = 0.86 - slope + 0.012 * (noise(x, y, 1) - 0.5) - 0.25 * cover(edge, 3.0);
+    if x >= MARGIN && y >= MARGIN && x < width - MARGIN && y < height - MARGIN {
+        let (left, top) = ((x - MARGIN) / PITCH * PITCH + MARGIN, (y - MARGIN) / PITCH * PITCH + MARGIN);
+        let middle = ((left + PITCH / 2) as f32, (top + PITCH / 2) as f32);
+        let far = distance(x, y, middle);
+        let shade = (x as f32 - middle.0 + y as f32 - middle.1) / 90.0;
+        let rim = cover(far, RADIUS + 4.0) - cover(far, RADIUS);
+        light += rim * (0.16 * shade - 0.12) + cover(far, RADIUS) * 0.1;
+    }
+    [light, light, light + 0.01]
+}
+
+/// Phosphate from 0 to 1: a field's slope with some scatter; the last column has the known dilutions.
+fn phosphate(column: usize, row: usize) -> f32 {
+    if column == COLUMNS - 1 {
+        return row as f32 / (ROWS - 1) as f32;
+    }
+    let slope = (column as f32 / 10.0 * 1.7).sin().abs() * 0.55 + row as f32 * 0.03;
+    (slope + 0.35 * (noise(column, row, 2) - 0.5)).clamp(0.02, 0.95)
+}
+
+/// A well's pixel: colour, and how much of it the disc covers.
+fn extract(x: usize, y: usize, column: usize, row: usize) -> ([f32; 3], f32) {
+    let middle = WELL as f32 / 2.0;
+    let far = distance(x, y, (middle, middle));
+    let depth = phosphate(column, row) * (1.0 - 0.25 * (far / RADIUS).powi(4));
+    let light = 1.0 + 0.02 * (noise(x, y, 96 + row * COLUMNS + column) - 0.5);
+    let glint = 0.35 * cover(distance(x, y, (middle - 14.0, middle - 16.0)), 5.0);
+    let absorbed = [2.6, 1.15, 0.28].map(|k: f32| 0.97 * light * (-k * depth).exp());
+    (absorbed.map(|v| (v + glint * (1.0 - v)).clamp(0.0, 1.0)), cover(far, RADIUS))
+}
+
+fn byte(v: f32) -> u8 {
+    (v * 255.0).round() as u8
+}
+
+fn pixels(width: usize, height: usize) -> impl Iterator<Item = (usize, usize)> {
+    (0..height).flat_map(move |y| (0..width).map(move |x| (x, y)))
+}
+
+fn draw_well(folder: &Path, column: usize, row: usize) -> Result<String> {
+    let name = format!("well_{}{:02}", (b'A' + row as u8) as char, column + 1);
+    let drawn = pixels(WELL, WELL).map(|(x, y)| extract(x, y, column, row));
+    if OPERATORS[row].chars().all(|c| c.is_ascii_uppercase()) {
+        let name = name + ".pfm";
+        let over_white = |(colour, cover): ([f32; 3], f32)| colour.map(|v| (cover * v + (1.0 - cover)).to_bits());
+        let words: Vec<u32> = drawn.flat_map(over_white).collect();
+        pfm::write(File::create(folder.join(&name))?, WELL, WELL, 3, &words)?;
+        return Ok(name);
+    }
+    let name = name + ".png";
+    let bytes: Vec<u8> = drawn.flat_map(|([r, g, b], a)| [r, g, b, a].map(byte)).collect();
+    png_file::write(File::create(folder.join(&name))?, WELL, WELL, 4, &bytes)?;
+    Ok(name)
+}
+
+fn main() -> Result<()> {
+    let folder = std::env::args().nth(1).context("usage: wells FOLDER")?;
+    let folder = Path::new(&folder);
+    fs::create_dir_all(folder)?;
+    let (width, height) = (COLUMNS * PITCH + 2 * MARGIN, ROWS * PITCH + 2 * MARGIN);
+    let tray: Vec<u8> = pixels(width, height).flat_map(|(x, y)| plate(x, y, width, height).map(byte)).collect();
+    png_file::write(File::create(folder.join("tray.png"))?, width, height, 3, &tray)?;
+    for job in 0..COLUMNS / 2 {
+        let mut lines = String::new();
+        for (column, row) in (2 * job..2 * job + 2).flat_map(|column| (0..ROWS).map(move |row| (column, row))) {
+            let name = draw_well(folder, column, row)?;
+            let inset = (PITCH - WELL) / 2;
+            let at = |n: usize| MARGIN + n * PITCH + inset;
+            let operator = OPERATORS[row].to_ascii_lowercase();
+            lines += &format!("{operator} {name} at={},{}\n", at(column), at(row));
+        }
+        fs::write(folder.join(format!("layers_{}.txt", job + 1)), lines)?;
+    }
+    println!("{}: the empty tray, {} wells, {} lists of layers", folder.display(), COLUMNS * ROWS, COLUMNS / 2);
+    Ok(())
+}

@@ -1,0 +1,54 @@
+//! The command `tray`: makes a job folder from pictures and layers, runs it, shows it, takes it up, exports its picture.
+
+mod export;
+mod folder;
+mod layers;
+mod make;
+mod mapped;
+mod pfm;
+mod picture;
+mod png_file;
+mod run;
+mod status;
+
+use clap::{Parser, Subcommand};
+use std::process::ExitCode;
+
+#[derive(Parser)]
+#[command(
+    name = "tray",
+    version,
+    about = "Lays pictures on a tray, pixel by pixel, and takes a stopped job up where it stopped"
+)]
+struct Command {
+    #[command(subcommand)]
+    action: Action,
+}
+
+#[derive(Subcommand)]
+enum Action {
+    /// Make a job folder from a destination and layers
+    Make(make::Make),
+    /// Run a job from its mark on, to the end or as far as an allowance goes
+    Run(run::Run),
+    /// Show how far a job is
+    Status(status::Status),
+    /// Write a job's picture as PNG or PFM
+    Export(export::Export),
+}
+
+fn main() -> ExitCode {
+    let result = match Command::parse().action {
+        Action::Make(make) => make.make(),
+        Action::Run(run) => run.run(),
+        Action::Status(status) => status.print(),
+        Action::Export(export) => export.write(),
+    };
+    match result {
+        Ok(()) => ExitCode::SUCCESS,
+        Err(error) => {
+            eprintln!("tray: {error:#}");
+            ExitCode::FAILURE
+        }
+    }
+}
