@@ -26,7 +26,7 @@ const RADIUS: f32 = 39.0;
 
 /// The operator of each row. Those in capitals have their source as a PFM: no alpha, white around the disc.
 const OPERATORS: [&str; ROWS] =
-    ["over", "MULTIPLY", "atop", "color-burn", "DARKEN", "linear-burn", "darken-intensity", "hard-mix"];
+    ["over", "MULTIPLY", "atop", "color-burn", "DARKEN", "linear-burn", "DARKEN-INTENSITY", "over"];
 
 /// A number from 0 to 1 that looks random and is always the same.
 fn noise(x: usize, y: usize, seed: usize) -> f32 {
@@ -93,7 +93,7 @@ fn pixels(width: usize, height: usize) -> impl Iterator<Item = (usize, usize)> {
 fn draw_well(folder: &Path, column: usize, row: usize) -> Result<String> {
     let name = format!("well_{}{:02}", (b'A' + row as u8) as char, column + 1);
     let drawn = pixels(WELL, WELL).map(|(x, y)| extract(x, y, column, row));
-    if OPERATORS[row].chars().all(|c| c.is_ascii_uppercase()) {
+    if OPERATORS[row].chars().all(|c| !c.is_ascii_lowercase()) {
         let name = name + ".pfm";
         let over_white = |(colour, cover): ([f32; 3], f32)| colour.map(|v| (cover * v + (1.0 - cover)).to_bits());
         let words: Vec<u32> = drawn.flat_map(over_white).collect();

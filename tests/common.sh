@@ -1,0 +1,34 @@
+# Sourced by the tests. A test says `skipped: ..` in one line, and passes, where something it needs cannot be had.
+set -euo pipefail
+cd "$(dirname "${BASH_SOURCE[0]}")/.."
+mkdir -p target/tests
+
+skip() {
+    echo "skipped: $*"
+    exit 0
+}
+
+needs() {
+    local tool
+    for tool in "$@"; do
+        command -v "$tool" > /dev/null || skip "$tool is not installed"
+    done
+}
+
+# Exports TRAY_LIB, the folder of libtray.a: the one that is set, or the one that rt proves and builds.
+library() {
+    if [ -z "${TRAY_LIB:-}" ]; then
+        needs rt
+        rt staticlib tray > target/tests/staticlib.log 2>&1 || { tail -n 20 target/tests/staticlib.log; exit 1; }
+        TRAY_LIB=target/staticlib
+    fi
+    TRAY_LIB=$(cd "$TRAY_LIB" && pwd)
+    export TRAY_LIB
+}
+
+# compile OUT SOURCE.. [WORDS..]: C sources with the library.
+compile() {
+    local out=$1
+    shift
+    gcc -std=gnu11 -O2 -Wall -Wextra -Werror "$@" "$TRAY_LIB/libtray.a" -lm -o "target/tests/$out"
+}

@@ -1,0 +1,147 @@
+#include "job.h"
+
+#include <stdio.h>
+#include <stdlib.h>
+#include <string.h>
+
+// The call that is tested: the library's own, or a wrong one that must be found out.
+#ifdef WRONG
+uint64_t wrong_job(
+    int64_t, int64_t, int64_t, const uint32_t *, size_t, int64_t, const int64_t *, size_t, const uint32_t *, size_t,
+    const uint32_t *, size_t, uint64_t, uint32_t *, size_t, uint32_t *, size_t, uint64_t *, size_t, uint64_t *, uint64_t *,
+    uint64_t *);
+#define TESTED wrong_job
+#else
+#define TESTED tray_job
+#endif
+
+enum { ONE = 0x3f800000, INTERPOLATE = 43, BLUR = 67, OPERATORS = 70 };
+
+uint64_t random_next(uint64_t *seed) {
+    *seed = *seed * 6364136223846793005u + 1442695040888963407u;
+    return *seed >> 33;
+}
+
+static void *room(size_t bytes) {
+    void *start = calloc(bytes + 1, 1);
+    if (!start) abort();
+    return start;
+}
+
+static void fill(uint32_t *words, size_t length, uint64_t *seed) {
+    for (size_t i = 0; i < length; i++) {
+        float value = (float)(random_next(seed) % 1021) / 1009.0f;
+        memcpy(words + i, &value, 4);
+    }
+}
+
+int operator_next(int operator) {
+    operator = (operator + 1) % OPERATORS;
+    return operator == INTERPOLATE || operator == BLUR ? operator_next(operator) : operator;
+}
+
+static void widen(const Job *job, uint32_t *out) {
+    for (uint64_t j = 0; j < job->pixels; j++)
+        for (int c = 0; c < 4; c++) {
+            const uint32_t *pixel = job->dst + j * job->channels;
+            out[4 * j + c] = c == 3 && job->channels < 4 ? ONE : pixel[job->channels == 1 ? 0 : c];
+        }
+}
+
+static void compose(const Job *job, int k) {
+    uint64_t number = tray_compose(
+        job->width, job->height, 4, job->picture[k], 4 * job->pixels, job->table + 10 * k, 10, job->args + 4 * k, 4,
+        job->samples, job->samples_length, job->picture[k + 1], 4 * job->pixels);
+    if (number) {
+        printf("layer %d is refused as %llu\n", k, (unsigned long long)number);
+        exit(2);
+    }
+}
+
+Job job_new(int64_t width, int64_t height, int64_t channels, int64_t layers, int first, uint64_t seed) {
+    Job job = {.width = width, .height = height, .channels = channels, .layers = layers};
+    job.pixels = width * height;
+    job.dst_length = job.pixels * channels;
+    job.samples_length = job.pixels * 4;
+    job.dst = room(4 * job.dst_length);
+    job.samples = room(4 * job.samples_length);
+    job.before = room(32 * job.pixels);
+    fill(job.dst, job.dst_length, &seed);
+    fill(job.samples, job.samples_length, &seed);
+    fill(job.args, 4 * layers, &seed);
+    memset(job.before, 0xee, 32 * job.pixels);
+    int operator = first;
+    for (int k = 0; k < layers; k++) {
+        // Every third layer is smaller than the destination, every fourth tiled, every fifth runs off its source too.
+        int64_t small = k % 3 == 2, flags = 60 | (k % 4 == 3) | (k % 5 == 4) << 1;
+        if (k % 7 == 6) flags &= ~(int64_t)TRAY_GREEN;
+        int64_t row[10] = {
+            operator, random_next(&seed) % 10, (int64_t)(random_next(&seed) % 5) - 2, (int64_t)(random_next(&seed) % 5) - 2,
+            flags, 0, small ? width / 2 : width, small ? height / 2 : height, (int64_t[]){4, 3, 1}[k % 3], k % 5};
+        memcpy(job.table + 10 * k, row, sizeof row);
+        operator = operator_next(operator);
+    }
+    for (int k = 0; k <= layers; k++) job.picture[k] = room(16 * job.pixels);
+    widen(&job, job.picture[0]);
+    for (int k = 0; k < layers; k++) compose(&job, k);
+    return job;
+}
+
+size_t memory_bytes(const Job *job) { return 64 + 32 * job->pixels; }
+
+Memory memory_at(const Job *job, void *start) {
+    uint32_t *words = (uint32_t *)start + 16;
+    return (Memory){.mark = start, .work = {words, words + 4 * job->pixels}};
+}
+
+void memory_begin(const Job *job, Memory memory) {
+    memcpy(memory.work[0], job->before, 32 * job->pixels);
+    *memory.mark = 0;
+}
+
+Answer job_call(const Job *job, Memory memory, uint64_t allowance) {
+    Answer answer = {0};
+    answer.number = TESTED(
+        job->width, job->height, job->channels, job->dst, job->dst_length, job->layers, job->table, 10 * job->layers,
+        job->args, 4 * job->layers, job->samples, job->samples_length, allowance, memory.work[0], 4 * job->pixels,
+        memory.work[1], 4 * job->pixels, memory.mark, 1, &answer.layer, &answer.stores, &answer.finished);
+    return answer;
+}
+
+uint64_t job_end(const Job *job) { return (job->layers + 1) * job->pixels; }
+
+void memory_store(const Job *job, Memory memory, uint64_t entry) {
+    uint64_t mark = entry / 5, channel = entry % 5, k = mark / job->pixels, j = mark % job->pixels;
+    if (channel == 4) *memory.mark = mark + 1;
+    else memory.work[k % 2][4 * j + channel] = job->picture[k][4 * j + channel];
+}
+
+void memory_after(const Job *job, Memory memory, uint64_t made) {
+    memory_begin(job, memory);
+    for (uint64_t entry = 0; entry < made; entry++) memory_store(job, memory, entry);
+}
+
+// What work buffer k mod 2 holds before phase k.
+static const uint32_t *older(const Job *job, uint64_t k) {
+    return k < 2 ? job->before + 4 * job->pixels * k : job->picture[k - 2];
+}
+
+// The mark says how many pixels are whole. Of the next one some first channels may be stored; all else must be as the
+// phases before left it.
+State memory_state(const Job *job, Memory memory) {
+    uint64_t mark = *memory.mark, n = job->pixels, end = job_end(job);
+    if (mark > end) return (State){0, 0};
+    if (mark == end) return (State){finished_right(job, memory), 5 * end};
+    uint64_t k = mark / n, j = mark % n, size = 16 * n, part = 0;
+    const uint32_t *writing = memory.work[k % 2], *other = memory.work[(k + 1) % 2];
+    int prefix = !memcmp(writing, job->picture[k], 16 * j) && !memcmp(other, k ? job->picture[k - 1] : older(job, 1), size);
+    for (part = 4; part > 0 && memcmp(writing + 4 * j, job->picture[k] + 4 * j, 4 * part); part--) {}
+    prefix = prefix && !memcmp(writing + 4 * j + part, older(job, k) + 4 * j + part, size - 16 * j - 4 * part);
+    return (State){prefix, 5 * mark + part};
+}
+
+int finished_right(const Job *job, Memory memory) {
+    uint64_t last = job->layers;
+    return *memory.mark == job_end(job) && !memcmp(memory.work[last % 2], job->picture[last], 16 * job->pixels)
+        && !memcmp(memory.work[(last + 1) % 2], job->picture[last - 1], 16 * job->pixels);
+}

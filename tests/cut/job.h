@@ -1,0 +1,60 @@
+// Jobs for the tests of the cut, and what their memory must look like. The pictures come from the single composition,
+// layer by layer, and not from the job call that is tested.
+#ifndef JOB_H
+#define JOB_H
+
+#include "../../include/tray.h"
+
+enum { LAYERS = 16 };
+
+typedef struct {
+    int64_t width, height, channels, layers;
+    uint64_t pixels;
+    uint32_t *dst, *samples, args[4 * LAYERS];
+    size_t dst_length, samples_length;
+    int64_t table[10 * LAYERS];
+    uint32_t *before;                    // what the two work buffers hold at first, one after the other
+    uint32_t *picture[LAYERS + 1];       // the widened destination, then the result of each layer
+} Job;
+
+// What a job's calls write. The two work buffers stand one after the other, the mark before them.
+typedef struct {
+    uint64_t *mark;
+    uint32_t *work[2];
+} Memory;
+
+typedef struct {
+    uint64_t number, layer, stores, finished;
+} Answer;
+
+// How a memory stands to the store list.
+typedef struct {
+    int prefix;                          // whether it is a prefix of the list
+    uint64_t stores;                     // its length, up to a word that was rewritten with the same bits
+} State;
+
+// A job of random samples with `layers` operators from number `first` on, those that are refused left out; sides of the
+// sources, places, flags and arguments vary.
+Job job_new(int64_t width, int64_t height, int64_t channels, int64_t layers, int first, uint64_t seed);
+
+// The operators carried, and the one after `operator` among them.
+int operator_next(int operator);
+
+size_t memory_bytes(const Job *job);
+Memory memory_at(const Job *job, void *start);
+void memory_begin(const Job *job, Memory memory);
+
+Answer job_call(const Job *job, Memory memory, uint64_t allowance);
+uint64_t job_end(const Job *job);
+
+// The memory after `made` stores of the list from memory_begin on, written into `memory`.
+void memory_after(const Job *job, Memory memory, uint64_t made);
+// One more store.
+void memory_store(const Job *job, Memory memory, uint64_t entry);
+
+State memory_state(const Job *job, Memory memory);
+int finished_right(const Job *job, Memory memory);
+
+uint64_t random_next(uint64_t *seed);
+
+#endif

@@ -1,0 +1,159 @@
+// step: single-steps (ptrace) job calls and looks at their memory after every instruction, which is every place where a
+// worker can be stopped. Memory must be what some number of stores leaves, never fewer than before.
+//
+// All 68 operators in jobs of up to 16 layers, on destinations of one, three and four channels, each job in one call; a
+// larger picture; a job in many short calls, which end inside pixels; a refused call for each fault from 1 to 8 and 10,
+// which must not write at all.
+// Ends with status 1 when a memory is no prefix of the store list, 77 where the system does not let a process be traced.
+#define _GNU_SOURCE
+#include "job.h"
+
+#include <sched.h>
+#include <signal.h>
+#include <stdio.h>
+#include <stdlib.h>
+#include <string.h>
+#include <sys/mman.h>
+#include <sys/ptrace.h>
+#include <sys/wait.h>
+#include <unistd.h>
+
+enum { CANNOT = 77 };
+
+static uint64_t steps, seen, listed;
+
+static void *shared(size_t bytes) {
+    void *start = mmap(0, bytes, PROT_READ | PROT_WRITE, MAP_SHARED | MAP_ANONYMOUS, -1, 0);
+    if (start == MAP_FAILED) abort();
+    return start;
+}
+
+static int same(const Job *job, Memory a, Memory b) {
+    return *a.mark == *b.mark && !memcmp(a.work[0], b.work[0], 32 * job->pixels);
+}
+
+// A process that stops before its call and is traced from there.
+static pid_t start(const Job *job, Memory memory, uint64_t allowance, Answer *answer) {
+    pid_t worker = fork();
+    if (worker == 0) {
+        if (ptrace(PTRACE_TRACEME, 0, 0, 0)) _exit(CANNOT);
+        raise(SIGSTOP);
+        *answer = job_call(job, memory, allowance);
+        _exit(0);
+    }
+    int status;
+    waitpid(worker, &status, 0);
+    if (worker < 0 || WIFEXITED(status)) exit(CANNOT);
+    return worker;
+}
+
+// Steps one call; `expected` begins as a copy of `memory` after `made` stores and follows it to its end. Answers the
+// stores that stand at the end, and stops the test where memory is no prefix.
+static uint64_t step_call(const Job *job, Memory memory, Memory expected, uint64_t made, uint64_t allowance, Answer *answer) {
+    pid_t worker = start(job, memory, allowance, answer);
+    uint64_t most = allowance < 5 * job_end(job) - made ? made + allowance : 5 * job_end(job);
+    int status;
+    while (1) {
+        if (ptrace(PTRACE_SINGLESTEP, worker, 0, 0)) exit(CANNOT);
+        waitpid(worker, &status, 0);
+        if (WIFEXITED(status) || WIFSIGNALED(status)) break;
+        steps++;
+        if (same(job, memory, expected)) continue;
+        while (made < most && !same(job, memory, expected)) memory_store(job, expected, made++);
+        if (!same(job, memory, expected)) {
+            printf("after instruction %llu memory is no prefix of the store list (mark %llu)\n", (unsigned long long)steps,
+                (unsigned long long)*memory.mark);
+            kill(worker, SIGKILL);
+            waitpid(worker, &status, 0);
+            exit(1);
+        }
+        seen++;
+    }
+    if (!WIFEXITED(status) || WEXITSTATUS(status)) {
+        printf("the worker died\n");
+        exit(1);
+    }
+    return made;
+}
+
+static void check(int right, const char *what) {
+    if (right) return;
+    printf("%s\n", what);
+    exit(1);
+}
+
+// A whole job, in calls of `allowance` stores each.
+static void step_job(const Job *job, uint64_t allowance) {
+    Memory memory = memory_at(job, shared(memory_bytes(job))), expected = memory_at(job, shared(memory_bytes(job)));
+    Answer *answer = shared(sizeof *answer);
+    memory_begin(job, memory);
+    memory_begin(job, expected);
+    uint64_t end = job_end(job);
+    while (*memory.mark < end) {
+        uint64_t first = 5 * *memory.mark, left = 5 * end - first, wanted = allowance < left ? allowance : left;
+        memory_after(job, expected, first);
+        // Stores that the last call made of a pixel that it did not end.
+        memcpy(expected.work[0], memory.work[0], 32 * job->pixels);
+        step_call(job, memory, expected, first, allowance, answer);
+        check(answer->number == 0 && answer->layer == 0, "an accepted call answers a fault");
+        check(answer->stores == wanted, "a call answers another count of stores");
+        check(answer->finished == (*memory.mark == end), "a call answers finished where it is not, or not where it is");
+        check(*memory.mark == (first + wanted) / 5, "a call ends at another mark");
+    }
+    check(finished_right(job, memory), "the finished picture is another one");
+    listed += 5 * end;
+}
+
+// A call that must be refused under `number` and may write nothing, whatever instruction it is stopped at.
+static void step_refused(Job job, uint64_t number, uint64_t layer) {
+    Memory memory = memory_at(&job, shared(memory_bytes(&job))), expected = memory_at(&job, shared(memory_bytes(&job)));
+    Answer *answer = shared(sizeof *answer);
+    memory_begin(&job, memory);
+    memory_begin(&job, expected);
+    if (number == 10) *memory.mark = *expected.mark = job_end(&job) + 1;
+    pid_t worker = start(&job, memory, 100, answer);
+    int status;
+    while (!ptrace(PTRACE_SINGLESTEP, worker, 0, 0) && waitpid(worker, &status, 0) == worker && WIFSTOPPED(status)) {
+        steps++;
+        check(same(&job, memory, expected), "a refused call wrote");
+    }
+    check(answer->number == number && answer->layer == layer, "a refused call answers another fault");
+    check(answer->stores == 0 && answer->finished == 0, "a refused call answers stores, or finished");
+}
+
+static void refusals(Job job) {
+    Job wrong[] = {job, job, job, job, job, job, job, job, job};
+    wrong[0].layers = 0;
+    wrong[1].dst_length--;
+    const struct { int column; int64_t value; } row[] = {{0, 70}, {0, 43}, {1, 10}, {4, 64}, {5, INT64_MAX}, {9, 5}};
+    for (int i = 0; i < 6; i++) wrong[2 + i].table[10 * (i % 3) + row[i].column] = row[i].value;
+    for (int i = 0; i < 8; i++) step_refused(wrong[i], i + 1, i < 2 ? 0 : (i - 2) % 3);
+    step_refused(job, 10, 0);
+}
+
+// Tracer and traced take turns: on one processor they do so faster.
+static void one_processor(void) {
+    cpu_set_t set;
+    CPU_ZERO(&set);
+    CPU_SET(sched_getcpu(), &set);
+    sched_setaffinity(0, sizeof set, &set);
+}
+
+int main(void) {
+    one_processor();
+    int operator = 0, jobs = 0;
+    for (int left = 68; left > 0; left -= LAYERS, jobs++) {
+        int64_t layers = left < LAYERS ? left : LAYERS;
+        Job job = job_new(5, 3, (int64_t[]){4, 3, 1}[jobs % 3], layers, operator, 7 + jobs);
+        step_job(&job, UINT64_MAX);
+        for (int k = 0; k < layers; k++) operator = operator_next(operator);
+    }
+    Job large = job_new(23, 9, 4, 2, 0, 98), small = job_new(5, 2, 3, 4, 13, 99);
+    step_job(&large, UINT64_MAX);
+    step_job(&small, 7);
+    refusals(small);
+    printf("%llu instructions stepped, 68 operators in %d jobs, a larger picture, short calls, refusals: memory is a prefix of the store list "
+           "after each; it moved %llu times over %llu stores\n",
+        (unsigned long long)steps, jobs, (unsigned long long)seen, (unsigned long long)listed);
+    return 0;
+}
