@@ -19,7 +19,7 @@ mod library {
     use crate::request::{Answer, Job, Memory, Side};
 
     unsafe extern "C" {
-        fn tray_from_name(name: *const u8, length: usize) -> u64;
+        fn tray_from_name(name: *const u8, length: usize, operator: *mut u64) -> u64;
         fn tray_compose(
             width: i64,
             height: i64,
@@ -63,19 +63,25 @@ mod library {
             work1_length: usize,
             mark: *mut u64,
             mark_length: usize,
-            answer: *mut u64,
-            answer_length: usize,
+            layer: *mut u64,
+            stores: *mut u64,
+            finished: *mut u64,
         ) -> u64;
     }
 
-    /// How the library says that a name is unknown: any number that is no operator's.
-    fn operator(answer: u64) -> Option<u64> {
-        (answer < 70).then_some(answer)
+    /// What the library says of a name: 0 and its operator; or 3, with the operator as it was.
+    fn named(number: u64, operator: u64) -> Option<u64> {
+        match number {
+            0 => Some(operator),
+            3 if operator == LONG => None,
+            _ => panic!("the library answers a name with {number} and operator {operator}"),
+        }
     }
 
-    /// What `tray_job` writes: number, layer, stores, finished.
-    fn answer(numbers: &[u64]) -> Answer {
-        Answer { number: numbers[0], layer: numbers[1], stores: numbers[2], finished: numbers[3] != 0 }
+    /// A yes or no that the library writes as 1 or 0.
+    fn yes(n: u64) -> bool {
+        assert!(n < 2, "the library writes {n} for yes or no");
+        n == 1
     }
 
     /// Elements on each side of a lent list.
@@ -105,6 +111,11 @@ mod library {
 
         fn list(&self) -> &[T] {
             &self.all[MARGIN..MARGIN + self.length]
+        }
+
+        /// The only element of the list.
+        fn only(&self) -> T {
+            self.around_kept().list()[0]
         }
 
         /// Panics where the elements around the list have changed.
@@ -156,9 +167,10 @@ mod library {
     impl Side for Ours {
         fn from_name(&self, name: &[u8]) -> Option<u64> {
             let lent = Lent::new(name, 0x5a);
-            let number = unsafe { tray_from_name(lent.shared(), name.len()) };
+            let mut operator = Lent::new(&[LONG], LONG);
+            let number = unsafe { tray_from_name(lent.shared(), name.len(), operator.unique()) };
             lent.kept(name);
-            operator(number)
+            named(number, operator.only())
         }
 
         fn compose(&self, job: &Job, out: &mut [u32]) -> u64 {
@@ -208,7 +220,7 @@ mod library {
             let inputs = Inputs::new(job);
             let [mut work0, mut work1] = [0, 1].map(|w| Lent::new(&memory.work[w], WORD));
             let mut mark = Lent::new(&memory.mark, LONG);
-            let mut told = Lent::new(&[LONG; 4], LONG);
+            let [mut layer, mut stores, mut finished] = [0; 3].map(|_| Lent::new(&[LONG], LONG));
             let number = unsafe {
                 tray_job(
                     job.width,
@@ -230,16 +242,15 @@ mod library {
                     memory.work[1].len(),
                     mark.unique(),
                     memory.mark.len(),
-                    told.unique(),
-                    4,
+                    layer.unique(),
+                    stores.unique(),
+                    finished.unique(),
                 )
             };
             inputs.kept(job);
             memory.work = [&work0, &work1].map(|work| work.around_kept().list().to_vec());
             memory.mark = mark.around_kept().list().to_vec();
-            let answer = answer(told.around_kept().list());
-            assert_eq!(number, answer.number, "the library returns another number than it writes");
-            answer
+            Answer { number, layer: layer.only(), stores: stores.only(), finished: yes(finished.only()) }
         }
     }
 }
