@@ -2,7 +2,7 @@
 
 use crate::picture::Picture;
 use anyhow::{bail, Result};
-use png::{BitDepth, ColorType, Decoder, Encoder, Transformations};
+use png::{AdaptiveFilterType, BitDepth, ColorType, Compression, Decoder, Encoder, FilterType, Transformations};
 
 pub fn read(bytes: &[u8]) -> Result<Picture> {
     let mut decoder = Decoder::new(bytes);
@@ -40,6 +40,9 @@ pub fn write(out: impl std::io::Write, width: usize, height: usize, channels: us
         3 => ColorType::Rgb,
         _ => ColorType::Rgba,
     });
+    encoder.set_compression(Compression::Best);
+    encoder.set_filter(FilterType::Paeth);
+    encoder.set_adaptive_filter(AdaptiveFilterType::Adaptive);
     encoder.write_header()?.write_image_data(bytes)?;
     Ok(())
 }

@@ -50,7 +50,7 @@ fn distance(x: usize, y: usize, middle: (f32, f32)) -> f32 {
 fn plate(x: usize, y: usize, width: usize, height: usize) -> [f32; 3] {
     let slope = 0.03 * (x as f32 / width as f32 + y as f32 / height as f32);
     let edge = x.min(y).min(width - 1 - x).min(height - 1 - y) as f32;
-    let mut light = 0.86 - slope + 0.004 * (noise(x, y, 1) - 0.5) - 0.25 * cover(edge, 3.0);
+    let mut light = 0.86 - slope - 0.25 * cover(edge, 3.0);
     if x >= MARGIN && y >= MARGIN && x < width - MARGIN && y < height - MARGIN {
         let (left, top) = ((x - MARGIN) / PITCH * PITCH + MARGIN, (y - MARGIN) / PITCH * PITCH + MARGIN);
         let middle = ((left + PITCH / 2) as f32, (top + PITCH / 2) as f32);
@@ -76,7 +76,7 @@ fn extract(x: usize, y: usize, column: usize, row: usize) -> ([f32; 3], f32) {
     let middle = WELL as f32 / 2.0;
     let far = distance(x, y, (middle, middle));
     let depth = phosphate(column, row) * (1.0 - 0.25 * (far / RADIUS).powi(4));
-    let light = 1.0 + 0.006 * (noise(x, y, 96 + row * COLUMNS + column) - 0.5);
+    let light = 1.0 + 0.004 * (noise(x, y, 96 + row * COLUMNS + column) - 0.5);
     let glint = 0.35 * cover(distance(x, y, (middle - 14.0, middle - 16.0)), 5.0);
     let absorbed = [2.6, 1.15, 0.28].map(|k: f32| 0.97 * light * (-k * depth).exp());
     (absorbed.map(|v| (v + glint * (1.0 - v)).clamp(0.0, 1.0)), cover(far, RADIUS))
