@@ -4,6 +4,9 @@
 use crate::request::{Answer, Job, Memory, Side};
 use std::fmt::Write;
 
+/// Where the fixed vectors stand: they are what the program that replays them reads.
+pub const VECTORS: &str = concat!(env!("CARGO_MANIFEST_DIR"), "/../crates/vectors/stdin");
+
 /// What an output holds before it is lent: an output that is not written still has it.
 pub const FILL: u32 = 0xa5a5_a5a5;
 pub const FILL_BYTE: u8 = 0xa5;

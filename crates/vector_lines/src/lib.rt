@@ -4,7 +4,9 @@ mod lists;
 mod numbers;
 
 pub use lists::bytes;
+pub use lists::first_bytes;
 pub use lists::first_integers;
+pub use lists::first_longs;
 pub use lists::first_words;
 pub use lists::integers;
 pub use lists::longs;

@@ -117,7 +117,21 @@ pub fn first_words(list: &[u32], count: usize) -> &[u32] {
     list
 }
 
+pub fn first_bytes(list: &[u8], count: usize) -> &[u8] {
+    if count < list.len() {
+        return &list[0..count];
+    }
+    list
+}
+
 pub fn first_integers(list: &[i64], count: usize) -> &[i64] {
+    if count < list.len() {
+        return &list[0..count];
+    }
+    list
+}
+
+pub fn first_longs(list: &[u64], count: usize) -> &[u64] {
     if count < list.len() {
         return &list[0..count];
     }

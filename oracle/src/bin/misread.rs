@@ -4,7 +4,7 @@
 //! with status 1 if any of this fails.
 
 use oracle::compare::{agrees, answered, expected};
-use oracle::lines::{Case, Reader, alone};
+use oracle::lines::{Case, Reader, VECTORS, alone};
 use oracle::random::Random;
 use oracle::restated::{Reading, Restated, wrong};
 
@@ -42,8 +42,7 @@ fn found_at_random(count: u64, reading: Reading) -> Option<Case> {
 }
 
 fn main() {
-    let default = concat!(env!("CARGO_MANIFEST_DIR"), "/../crates/vectors/data/vectors.txt").to_string();
-    let cases = cases(&std::env::args().nth(1).unwrap_or(default));
+    let cases = cases(&std::env::args().nth(1).unwrap_or(VECTORS.to_string()));
     let count: u64 = std::env::args().nth(2).and_then(|n| n.parse().ok()).unwrap_or(0);
     std::panic::set_hook(Box::new(|_| {}));
     let (right, none) = caught(&cases, Reading::RIGHT);

@@ -2,14 +2,13 @@
 //! TRAY_LIB named at the build, or else to the restatement, and prints each line that is answered otherwise.
 
 use oracle::compare::{agrees, answered};
-use oracle::lines::{Case, Reader, alone};
+use oracle::lines::{Case, Reader, VECTORS, alone};
 use oracle::ours;
 use oracle::request::Side;
 use oracle::restated::{Reading, Restated};
 
 fn main() {
-    let default = concat!(env!("CARGO_MANIFEST_DIR"), "/../crates/vectors/data/vectors.txt").to_string();
-    let path = std::env::args().nth(1).unwrap_or(default);
+    let path = std::env::args().nth(1).unwrap_or(VECTORS.to_string());
     let text = match path.as_str() {
         "-" => std::io::read_to_string(std::io::stdin()),
         file => std::fs::read_to_string(file),

@@ -1,4 +1,4 @@
-//! vectors [FILE]: writes the fixed vectors to crates/vectors/data/vectors.txt, or to FILE.
+//! vectors [FILE]: writes the fixed vectors to crates/vectors/stdin, or to FILE.
 //!
 //! One case a line; a line that starts with '#' is a comment. Tokens are separated by one space.
 //!
@@ -17,25 +17,21 @@
 //! What is asked stands first, then what must be answered; oracle/README.md says more of each.
 
 use oracle::cases;
-use oracle::lines::{Reader, Request};
+use oracle::lines::{Reader, Request, VECTORS};
 use oracle::request::Job;
 use std::collections::BTreeMap;
 
 fn main() -> std::io::Result<()> {
-    let default = concat!(env!("CARGO_MANIFEST_DIR"), "/../crates/vectors/data/vectors.txt").to_string();
-    let path = std::env::args().nth(1).unwrap_or(default);
+    let path = std::env::args().nth(1).unwrap_or(VECTORS.to_string());
     let book = cases::all();
-    if let Some(folder) = std::path::Path::new(&path).parent() {
-        std::fs::create_dir_all(folder)?;
-    }
     std::fs::write(&path, &book.text)?;
     report(&book.text);
     Ok(())
 }
 
-/// What a program that replays the file has to hold at most: bytes of a line, and numbers of each list.
+/// What a program that replays the file has to hold at most: bytes, and numbers of each list.
 const LIMITS: [(&str, usize); 12] = [
-    ("line", 8192),
+    ("text", 0x1f_ffff),
     ("name", 128),
     ("narrowing input", 256),
     ("narrowing output", 256),
@@ -58,8 +54,8 @@ fn report(text: &str) {
         let entry = longest.entry(what).or_default();
         *entry = n.max(*entry);
     };
+    seen("text", text.len());
     for line in text.lines() {
-        seen("line", line.len());
         let case = reader.case(line).expect("a line that was just written");
         let Some(case) = case else { continue };
         *kinds.entry(&line[..1]).or_default() += 1;

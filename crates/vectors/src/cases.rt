@@ -1,0 +1,224 @@
+// One function a kind of line: it reads what is asked, calls the library, and holds the answer against what the line says. Each answers the place
+// after the line's last token, or NOWHERE where the line is malformed or its answer is another.
+use crate::rooms::AT_ARGS;
+use crate::rooms::AT_DST;
+use crate::rooms::AT_INPUT;
+use crate::rooms::AT_SAMPLES;
+use crate::rooms::AT_TABLE;
+use crate::rooms::Args;
+use crate::rooms::Counts;
+use crate::rooms::OUT;
+use crate::rooms::Picture;
+use crate::rooms::Samples;
+use crate::rooms::Table;
+use vector_lines::NOWHERE;
+use vector_lines::bytes;
+use vector_lines::expect;
+use vector_lines::first_bytes;
+use vector_lines::first_integers;
+use vector_lines::first_words;
+use vector_lines::integers;
+use vector_lines::number;
+use vector_lines::same_words;
+use vector_lines::signed;
+use vector_lines::words;
+
+// What an output holds before it is lent.
+const FILL: u32 = 0xa5a5_a5a5;
+
+const FILL_BYTE: u8 = 0xa5;
+
+// F NAME: number operator.
+pub fn name(line: &[u8]) -> usize {
+    let mut text = [0u8; 128];
+    let mut count: usize = 0;
+    let at = bytes(line, 1, &mut text, &mut count);
+    named(line, at, first_bytes(&text, count))
+}
+
+fn named(line: &[u8], at: usize, text: &[u8]) -> usize {
+    let mut operator: u64 = 0;
+    let answer = tray::tray_from_name(text, &mut operator);
+    expect(line, expect(line, at, answer), operator)
+}
+
+// N wanted INPUT length: number OUT.
+pub fn narrowing(line: &[u8], input: &mut Picture, counts: &mut Counts) -> usize {
+    let wanted = signed(line, 1);
+    let at = words(line, wanted.next, input, &mut counts[AT_INPUT]);
+    let length = number(line, at);
+    if length.value > OUT as u64 {
+        return NOWHERE;
+    }
+    let n = length.value as usize;
+    let mut out = [FILL; OUT];
+    narrowed(
+        line,
+        length.next,
+        wanted.value,
+        first_words(input, counts[AT_INPUT]),
+        &mut out[0..n],
+    )
+}
+
+fn narrowed(line: &[u8], at: usize, wanted: i64, input: &[u32], out: &mut [u32]) -> usize {
+    let answer = tray::tray_narrow(wanted, input, out);
+    written(line, expect(line, at, answer), out)
+}
+
+// The place after an output that must be as `out` is.
+fn written(line: &[u8], at: usize, out: &[u32]) -> usize {
+    let mut due = [FILL; OUT];
+    let mut count = out.len();
+    let next = words(line, at, &mut due, &mut count);
+    if same_words(first_words(&due, count), out) {
+        next
+    } else {
+        NOWHERE
+    }
+}
+
+// B wanted INPUT length: number OUT.
+pub fn narrowing_bytes(line: &[u8], input: &mut Picture, counts: &mut Counts) -> usize {
+    let wanted = signed(line, 1);
+    let at = words(line, wanted.next, input, &mut counts[AT_INPUT]);
+    let length = number(line, at);
+    if length.value > OUT as u64 {
+        return NOWHERE;
+    }
+    let n = length.value as usize;
+    let mut out = [FILL_BYTE; OUT];
+    narrowed_bytes(
+        line,
+        length.next,
+        wanted.value,
+        first_words(input, counts[AT_INPUT]),
+        &mut out[0..n],
+    )
+}
+
+fn narrowed_bytes(line: &[u8], at: usize, wanted: i64, input: &[u32], out: &mut [u8]) -> usize {
+    let answer = tray::tray_narrow_bytes(wanted, input, out);
+    written_bytes(line, expect(line, at, answer), out)
+}
+
+fn written_bytes(line: &[u8], at: usize, out: &[u8]) -> usize {
+    let mut due = [FILL_BYTE; OUT];
+    let mut count = out.len();
+    let next = bytes(line, at, &mut due, &mut count);
+    if check::same(first_bytes(&due, count), out) {
+        next
+    } else {
+        NOWHERE
+    }
+}
+
+// The lists of the layers: TABLE ARGS SAMPLES.
+pub fn layers(
+    line: &[u8],
+    at: usize,
+    table: &mut Table,
+    args: &mut Args,
+    samples: &mut Samples,
+    counts: &mut Counts,
+) -> usize {
+    let after_table = integers(line, at, table, &mut counts[AT_TABLE]);
+    let after_args = words(line, after_table, args, &mut counts[AT_ARGS]);
+    words(line, after_args, samples, &mut counts[AT_SAMPLES])
+}
+
+// A destination's sides and channels, and the place after them.
+pub struct Shape {
+    pub width: i64,
+    pub height: i64,
+    pub channels: i64,
+    pub next: usize,
+}
+
+pub fn shape_of(line: &[u8]) -> Shape {
+    let width = signed(line, 1);
+    let height = signed(line, width.next);
+    let channels = signed(line, height.next);
+    let w = width.value;
+    let h = height.value;
+    let c = channels.value;
+    Shape {
+        width: w,
+        height: h,
+        channels: c,
+        next: channels.next,
+    }
+}
+
+// C width height channels DST TABLE ARGS SAMPLES length: number OUT.
+pub fn composition(
+    line: &[u8],
+    dst: &mut Picture,
+    table: &mut Table,
+    args: &mut Args,
+    samples: &mut Samples,
+    counts: &mut Counts,
+) -> usize {
+    let shape = shape_of(line);
+    let after_dst = words(line, shape.next, dst, &mut counts[AT_DST]);
+    let after_lists = layers(line, after_dst, table, args, samples, counts);
+    composed(
+        line,
+        after_lists,
+        shape,
+        first_words(dst, counts[AT_DST]),
+        first_integers(table, counts[AT_TABLE]),
+        first_words(args, counts[AT_ARGS]),
+        first_words(samples, counts[AT_SAMPLES]),
+    )
+}
+
+fn composed(
+    line: &[u8],
+    at: usize,
+    shape: Shape,
+    dst: &[u32],
+    table: &[i64],
+    args: &[u32],
+    samples: &[u32],
+) -> usize {
+    let length = number(line, at);
+    if length.value > OUT as u64 {
+        return NOWHERE;
+    }
+    let n = length.value as usize;
+    let mut out = [FILL; OUT];
+    composed_in(
+        line,
+        length.next,
+        shape,
+        dst,
+        table,
+        args,
+        samples,
+        &mut out[0..n],
+    )
+}
+
+fn composed_in(
+    line: &[u8],
+    at: usize,
+    shape: Shape,
+    dst: &[u32],
+    table: &[i64],
+    args: &[u32],
+    samples: &[u32],
+    out: &mut [u32],
+) -> usize {
+    let answer = tray::tray_compose(
+        shape.width,
+        shape.height,
+        shape.channels,
+        dst,
+        table,
+        args,
+        samples,
+        out,
+    );
+    written(line, expect(line, at, answer), out)
+}

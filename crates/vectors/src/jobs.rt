@@ -1,0 +1,277 @@
+// The lines of jobs: calls one after the other on the same work buffers and mark.
+use crate::cases::Shape;
+use crate::cases::layers;
+use crate::cases::shape_of;
+use crate::rooms::AT_ARGS;
+use crate::rooms::AT_DST;
+use crate::rooms::AT_MARK;
+use crate::rooms::AT_SAMPLES;
+use crate::rooms::AT_TABLE;
+use crate::rooms::AT_WORK0;
+use crate::rooms::AT_WORK1;
+use crate::rooms::Args;
+use crate::rooms::Counts;
+use crate::rooms::Mark;
+use crate::rooms::Picture;
+use crate::rooms::Samples;
+use crate::rooms::Table;
+use vector_lines::NOWHERE;
+use vector_lines::expect;
+use vector_lines::first_integers;
+use vector_lines::first_longs;
+use vector_lines::first_words;
+use vector_lines::longs;
+use vector_lines::same_longs;
+use vector_lines::same_words;
+use vector_lines::signed;
+use vector_lines::words;
+
+// J width height channels DST layers TABLE ARGS SAMPLES WORK0 WORK1 MARK ALLOWANCES: number layer stores finished mark for each call, WORK0 WORK1 MARK.
+pub fn job(
+    line: &[u8],
+    dst: &mut Picture,
+    table: &mut Table,
+    args: &mut Args,
+    samples: &mut Samples,
+    work0: &mut Picture,
+    work1: &mut Picture,
+    mark: &mut Mark,
+    counts: &mut Counts,
+) -> usize {
+    let shape = shape_of(line);
+    let after_dst = words(line, shape.next, dst, &mut counts[AT_DST]);
+    let count = signed(line, after_dst);
+    let after_lists = layers(line, count.next, table, args, samples, counts);
+    let dst_count = counts[AT_DST];
+    let table_count = counts[AT_TABLE];
+    let args_count = counts[AT_ARGS];
+    let samples_count = counts[AT_SAMPLES];
+    played(
+        line,
+        after_lists,
+        shape,
+        first_words(dst, dst_count),
+        count.value,
+        first_integers(table, table_count),
+        first_words(args, args_count),
+        first_words(samples, samples_count),
+        work0,
+        work1,
+        mark,
+        counts,
+    )
+}
+
+// The memory that a job's calls share: WORK0 WORK1 MARK.
+fn memory(
+    line: &[u8],
+    at: usize,
+    work0: &mut Picture,
+    work1: &mut Picture,
+    mark: &mut Mark,
+    counts: &mut Counts,
+) -> usize {
+    let after_work0 = words(line, at, work0, &mut counts[AT_WORK0]);
+    let after_work1 = words(line, after_work0, work1, &mut counts[AT_WORK1]);
+    longs(line, after_work1, mark, &mut counts[AT_MARK])
+}
+
+// Reads the memory and the allowances, makes the calls, and holds the memory that they leave against what the line says.
+fn played(
+    line: &[u8],
+    at: usize,
+    shape: Shape,
+    dst: &[u32],
+    layers: i64,
+    table: &[i64],
+    args: &[u32],
+    samples: &[u32],
+    work0: &mut Picture,
+    work1: &mut Picture,
+    mark: &mut Mark,
+    counts: &mut Counts,
+) -> usize {
+    let after_memory = memory(line, at, work0, work1, mark, counts);
+    let mut allowances = [0u64; 16];
+    let mut calls: usize = 0;
+    let after_allowances = longs(line, after_memory, &mut allowances, &mut calls);
+    let mut due0 = *work0;
+    let mut due1 = *work1;
+    let mut due_mark = *mark;
+    let after_calls = called(
+        line,
+        after_allowances,
+        shape,
+        dst,
+        layers,
+        table,
+        args,
+        samples,
+        first_longs(&allowances, calls),
+        work0,
+        work1,
+        mark,
+        counts,
+    );
+    left(
+        line,
+        after_calls,
+        &mut due0,
+        &mut due1,
+        &mut due_mark,
+        work0,
+        work1,
+        mark,
+        counts,
+    )
+}
+
+// The place after the memory that must be left, which is kept for the next line.
+fn left(
+    line: &[u8],
+    at: usize,
+    due0: &mut Picture,
+    due1: &mut Picture,
+    due_mark: &mut Mark,
+    work0: &mut Picture,
+    work1: &mut Picture,
+    mark: &mut Mark,
+    counts: &mut Counts,
+) -> usize {
+    let n0 = counts[AT_WORK0];
+    let n1 = counts[AT_WORK1];
+    let n = counts[AT_MARK];
+    let next = memory(line, at, due0, due1, due_mark, counts);
+    let same = same_words(due0, work0) && same_words(due1, work1) && same_longs(due_mark, mark);
+    let same_counts = counts[AT_WORK0] == n0 && counts[AT_WORK1] == n1 && counts[AT_MARK] == n;
+    *work0 = *due0;
+    *work1 = *due1;
+    *mark = *due_mark;
+    if same && same_counts { next } else { NOWHERE }
+}
+
+// The calls, each with its allowance, on the parts of the memory that are lent.
+fn called(
+    line: &[u8],
+    at: usize,
+    shape: Shape,
+    dst: &[u32],
+    layers: i64,
+    table: &[i64],
+    args: &[u32],
+    samples: &[u32],
+    allowances: &[u64],
+    work0: &mut [u32],
+    work1: &mut [u32],
+    mark: &mut [u64],
+    counts: &Counts,
+) -> usize {
+    let n0 = counts[AT_WORK0];
+    let n1 = counts[AT_WORK1];
+    let n = counts[AT_MARK];
+    if n0 > work0.len() {
+        return NOWHERE;
+    }
+    if n1 > work1.len() {
+        return NOWHERE;
+    }
+    if n > mark.len() {
+        return NOWHERE;
+    }
+    calls_on(
+        line,
+        at,
+        shape,
+        dst,
+        layers,
+        table,
+        args,
+        samples,
+        allowances,
+        &mut work0[0..n0],
+        &mut work1[0..n1],
+        &mut mark[0..n],
+    )
+}
+
+fn calls_on(
+    line: &[u8],
+    from: usize,
+    shape: Shape,
+    dst: &[u32],
+    layers: i64,
+    table: &[i64],
+    args: &[u32],
+    samples: &[u32],
+    allowances: &[u64],
+    work0: &mut [u32],
+    work1: &mut [u32],
+    mark: &mut [u64],
+) -> usize {
+    let mut at = from;
+    let mut i = 0;
+    while i < allowances.len() {
+        let allowance = allowances[i];
+        i += 1;
+        at = call(
+            line,
+            at,
+            shape,
+            dst,
+            layers,
+            table,
+            args,
+            samples,
+            allowance,
+            work0,
+            work1,
+            mark,
+        );
+    }
+    at
+}
+
+// One call, and the place after its answer.
+fn call(
+    line: &[u8],
+    at: usize,
+    shape: Shape,
+    dst: &[u32],
+    layers: i64,
+    table: &[i64],
+    args: &[u32],
+    samples: &[u32],
+    allowance: u64,
+    work0: &mut [u32],
+    work1: &mut [u32],
+    mark: &mut [u64],
+) -> usize {
+    let mut layer: u64 = 0;
+    let mut stores: u64 = 0;
+    let mut finished: u64 = 0;
+    let answer = tray::tray_job(
+        shape.width,
+        shape.height,
+        shape.channels,
+        dst,
+        layers,
+        table,
+        args,
+        samples,
+        allowance,
+        work0,
+        work1,
+        mark,
+        &mut layer,
+        &mut stores,
+        &mut finished,
+    );
+    let after_answer = expect(line, expect(line, at, answer), layer);
+    let after_count = expect(line, expect(line, after_answer, stores), finished);
+    expect(line, after_count, position(mark))
+}
+
+// The mark as a line shows it: the first number of its list, 0 where there is none.
+fn position(mark: &[u64]) -> u64 {
+    if 0 < mark.len() { mark[0] } else { 0 }
+}

@@ -1,0 +1,198 @@
+// Replays the fixed vectors on standard input against the library and writes, for each kind of line, how many are answered right and how many wrong,
+// and where the first wrong one stands. The vectors are written by oracle/, whose README has the form of a line.
+mod cases;
+mod input;
+mod jobs;
+mod rooms;
+
+use input::Chunk;
+use input::Line;
+use input::Window;
+use input::next_line;
+use libc::STDOUT_FILENO;
+use rooms::Args;
+use rooms::Counts;
+use rooms::Mark;
+use rooms::Picture;
+use rooms::Samples;
+use rooms::Table;
+use vector_lines::NOWHERE;
+use vector_lines::first_bytes;
+ghost use Prim.Native.Nat.{_<_};
+
+// A proved loop has to end, and nothing says that the input does: so many lines are read at most.
+const MOST_LINES: u64 = 0x1_0000_0000;
+
+// The kinds of lines, and how many there are; the last is that of lines of no kind.
+const KINDS: usize = 6;
+
+fn kind_of(first: u8) -> usize
+    ensures { λ r. ⌜ r < 6 ⌝ }
+{
+    match first {
+        b'F' => 0,
+        b'N' => 1,
+        b'B' => 2,
+        b'C' => 3,
+        b'J' => 4,
+        _ => 5,
+    }
+}
+
+// The place after the last token of a line, or NOWHERE.
+fn replayed(
+    line: &[u8],
+    kind: usize,
+    dst: &mut Picture,
+    table: &mut Table,
+    args: &mut Args,
+    samples: &mut Samples,
+    input: &mut Picture,
+    work0: &mut Picture,
+    work1: &mut Picture,
+    mark: &mut Mark,
+    counts: &mut Counts,
+) -> usize {
+    match kind {
+        0 => cases::name(line),
+        1 => cases::narrowing(line, input, counts),
+        2 => cases::narrowing_bytes(line, input, counts),
+        3 => cases::composition(line, dst, table, args, samples, counts),
+        4 => jobs::job(line, dst, table, args, samples, work0, work1, mark, counts),
+        _ => NOWHERE,
+    }
+}
+
+fn raised(n: u64) -> u64 {
+    if n < u64::MAX { n + 1 } else { n }
+}
+
+// Counts a line as right or wrong with its kind, and answers whether it is right.
+fn count(kind: usize, is_right: bool, right: &mut [u64; KINDS], wrong: &mut [u64; KINDS]) -> bool
+    requires { ⌜ kind < 6 ⌝ }
+{
+    if is_right {
+        right[kind] = raised(right[kind]);
+    } else {
+        wrong[kind] = raised(wrong[kind]);
+    }
+    is_right
+}
+
+// Replays and counts a line; false where it is wrong. A line that is empty or starts with '#' asks nothing.
+fn is_right(
+    room: &Line,
+    length: usize,
+    dst: &mut Picture,
+    table: &mut Table,
+    args: &mut Args,
+    samples: &mut Samples,
+    input: &mut Picture,
+    work0: &mut Picture,
+    work1: &mut Picture,
+    mark: &mut Mark,
+    counts: &mut Counts,
+    right: &mut [u64; KINDS],
+    wrong: &mut [u64; KINDS],
+) -> bool {
+    if length == 0 || room[0] == b'#' {
+        return true;
+    }
+    let line = first_bytes(room, length);
+    let kind = kind_of(room[0]);
+    let place = replayed(
+        line,
+        kind,
+        dst,
+        table,
+        args,
+        samples,
+        input,
+        work0,
+        work1,
+        mark,
+        counts,
+    );
+    count(kind, place == line.len(), right, wrong)
+}
+
+// The number of the first wrong line, 0 while there is none.
+fn earlier(first_wrong: u64, number: u64, is_right: bool) -> u64 {
+    if is_right || first_wrong > 0 {
+        first_wrong
+    } else {
+        number
+    }
+}
+
+// Replays every line, and answers the number of the first that is wrong, 0 where none is.
+fn replay(right: &mut [u64; KINDS], wrong: &mut [u64; KINDS]) -> u64 {
+    let mut line: Line = [0; 8192];
+    let mut chunk: Chunk = [0; 4096];
+    let mut window: Window = [0; 2];
+    let mut dst: Picture = [0; 256];
+    let mut table: Table = [0; 320];
+    let mut args: Args = [0; 128];
+    let mut samples: Samples = [0; 2048];
+    let mut input: Picture = [0; 256];
+    let mut work0: Picture = [0; 256];
+    let mut work1: Picture = [0; 256];
+    let mut mark: Mark = [0; 4];
+    let mut counts: Counts = [0; 8];
+    let mut first_wrong: u64 = 0;
+    let mut number: u64 = 0;
+    while number < MOST_LINES {
+        let read = next_line(&mut line, &mut chunk, &mut window);
+        if read.is_last {
+            break;
+        }
+        number += 1;
+        let answer = is_right(
+            &line,
+            read.length,
+            &mut dst,
+            &mut table,
+            &mut args,
+            &mut samples,
+            &mut input,
+            &mut work0,
+            &mut work1,
+            &mut mark,
+            &mut counts,
+            right,
+            wrong,
+        );
+        first_wrong = earlier(first_wrong, number, answer);
+    }
+    first_wrong
+}
+
+fn report(name: &[u8], right: u64, wrong: u64) {
+    io::write_all(STDOUT_FILENO, name);
+    io::write_all(STDOUT_FILENO, b": ");
+    io::print_decimal(STDOUT_FILENO, right);
+    io::write_all(STDOUT_FILENO, b" right, ");
+    io::print_decimal(STDOUT_FILENO, wrong);
+    io::write_all(STDOUT_FILENO, b" wrong\n");
+}
+
+fn main() {
+    let mut right = [0u64; KINDS];
+    let mut wrong = [0u64; KINDS];
+    let first_wrong = replay(&mut right, &mut wrong);
+    report(b"names", right[0], wrong[0]);
+    report(b"narrowings", right[1], wrong[1]);
+    report(b"bytes", right[2], wrong[2]);
+    report(b"compositions", right[3], wrong[3]);
+    report(b"jobs", right[4], wrong[4]);
+    report(b"lines of no kind", right[5], wrong[5]);
+    report_first(first_wrong);
+}
+
+fn report_first(first_wrong: u64) {
+    if first_wrong > 0 {
+        io::write_all(STDOUT_FILENO, b"the first wrong line: ");
+        io::print_decimal(STDOUT_FILENO, first_wrong);
+        io::write_all(STDOUT_FILENO, b"\n");
+    }
+}
