@@ -29,9 +29,9 @@ fn main() -> std::io::Result<()> {
     Ok(())
 }
 
-/// What a program that replays the file has to hold at most: bytes, and numbers of each list.
+/// What a program that replays the file has to hold at most: bytes of a line, and numbers of each list.
 const LIMITS: [(&str, usize); 12] = [
-    ("text", 0x1f_ffff),
+    ("line", 8191),
     ("name", 128),
     ("narrowing input", 256),
     ("narrowing output", 256),
@@ -54,8 +54,8 @@ fn report(text: &str) {
         let entry = longest.entry(what).or_default();
         *entry = n.max(*entry);
     };
-    seen("text", text.len());
     for line in text.lines() {
+        seen("line", line.len());
         let case = reader.case(line).expect("a line that was just written");
         let Some(case) = case else { continue };
         *kinds.entry(&line[..1]).or_default() += 1;
