@@ -6,25 +6,22 @@ ghost use Prim.Native.Nat.{_+_, _*_, _^_, _≤_, _<_};
 ghost use Rattle.float_steps.specs.Root.{IsRoot, nearestRoot, sqrtOf};
 ghost use Rattle.float_steps.specs.Words.{valueOf};
 
-// A guess at the root of n: for an n of 49 or 50 digits the root or one less, by two steps of
-// Newton's from a parabola. Nothing rests on it but the speed.
+// A guess at the root of n: for an n of 49 or 50 digits the root or one less, by one step of Halley's
+// from a cubic, and read off the digits of the sum with 2 ^ 52. Nothing rests on it but the speed.
 fn guess(n: u64) -> u64
     requires { ⌜ n ≤ 2 ^ 53 ⌝ }
     ensures { λ r. ⌜ r < 0xffff_fffe ⌝ }
 {
     let x = n as f64;
-    let a = 9108885.072 + x * (0.0000000299309458 - x * 0.000000000000000000000007358611765029);
-    let b = 0.5 * (a + x / a);
-    let c = 0.5 * (b + x / b) - 0.03;
-    if c > -1.0 {
-        if c < 18446744073709551616.0 {
-            let g = std::num::truncating_f64_to_u64(c);
-            if g < 0xffff_fffe {
-                return g;
-            }
-        }
+    let a = (7281950.786440425 + x * 3.941540651094282e-8)
+        + (x * x) * (x * 6.755980878539484e-39 - 2.1860987132479933e-23);
+    let q = a * a;
+    let sum = (a * (q + 3.0 * x) / (3.0 * q + x) - 0.52) + 4503599627370496.0;
+    if sum != sum {
+        return 0;
     }
-    0
+    let g = f64::to_bits(sum) % 0x1_0000_0000;
+    if g < 0xffff_fffe { g } else { 0 }
 }
 
 // The largest r with r * r <= n, by bisection.
