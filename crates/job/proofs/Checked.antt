@@ -18,6 +18,7 @@ use Rattle.job.specs.Memory.{Mem, positionOf}
 use Rattle.job.specs.Job.{pixelCount, layerCount, endOf, memoryFault, callFault, acceptance, refusal}
 use Rattle.job.specs.Call.{setting, settingOf, runOf, madeOf, Outcome, acceptedOf, callOf}
 use Rattle.job.specs.Steps.{Decodable, Sized, Due}
+use Rattle.job.proofs.Uses.{ahead-of}
 
 -- ---- the faults
 
@@ -139,6 +140,7 @@ module _ (i : Inputs) (m : Mem) (e : callFault i m .number ≡ 0) where
         some = λ h. pos-right (layerCount i + 1) (pixelCount i) (omega arith);
         position = refl;
         bound = omega arith;
+        ahead = ahead-of i m e (madeOf i allowance m) l;
       }
 
 -- ---- the same of the numbers that the code has

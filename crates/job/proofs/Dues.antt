@@ -1,9 +1,9 @@
 -- The writes of a call, stretch by stretch: what each stretch asks, and what it adds. Assumes nothing.
-use mathlib.Core.Path.{_≡_, sym, ap, _∙_, subst}
+use mathlib.Core.Path.{_≡_, refl, sym, ap, _∙_, subst}
 use mathlib.Core.List.{List}
 use mathlib.Core.Logic.{⊎-elim}
 use Prim.Native.Nat.{ℕ, _+_, _-_, _*_, _/_, _%_, _<_, _≤_, min}
-use native.Mathlib.Nat.{mod-lt, div-add-mod', mul-le-mul, min-eq-left, min-eq-right}
+use native.Mathlib.Nat.{zero-add, add-assoc, mod-lt, div-add-mod', mul-le-mul, min-eq-left, min-eq-right}
 use native.Mathlib.Omega.{arith}
 use lib.ListN.{length, drop, length-drop}
 use lib.Seq.{length-take-le}
@@ -18,7 +18,9 @@ use Rattle.compose.specs.Compose.{planOf, sourceOf}
 use Rattle.compose.proofs.Placed.{ready}
 use Rattle.job.specs.Memory.{Mem, workOf, positionOf}
 use Rattle.job.specs.Call.{Setting, area, pixelOf, runOf}
-use Rattle.job.specs.Steps.{stretchOf, phasePixel, Whole, Raised, Decodable, Sized, Stretch, Due}
+use Rattle.job.specs.Steps.{stretchOf, phasePixel, Whole, Raised, Decodable, Sized, Stretch, Due, StretchAhead}
+use Rattle.job.specs.Uses.{Ahead}
+use Rattle.job.proofs.Uses.{ahead-part}
 use Rattle.job.proofs.Writes.{le-or-lt}
 use Rattle.job.proofs.Runs.{run-on}
 use Rattle.job.proofs.Stretches.{stretch-position, stretch-run, phase-pixel, part-of, some-of}
@@ -62,40 +64,48 @@ plan-whole s m l p source z g ep es =
 
 -- ---- a stretch
 
--- what its phase asks
-pub phase-asks : (s : Setting) (k from count rest : ℕ) (m : Mem) (l : Layer) (p : Plan) (source : List ℕ) → Stretch s k from count rest m → GoodLayer (length (s .samples)) l
-    → p ≡ planOf l (s .width) (s .height) → source ≡ sourceOf (s .samples) (l .source)
-    → Whole p (s .channels) (length (s .dst)) (length source) (length (m .work0)) (length (m .work1))
-    × (from + count ≤ p .dw * p .dh)
-    × (rest < 5)
-    × (0 < rest → from + count < p .dw * p .dh)
-    × Raised count m
-unfolding planOf
-phase-asks s k from count rest m l p source h g ep es =
-    (plan-whole s m l p source (h .sized) g ep es, rw ep (h .inside), h .few, rw ep (h .room), record { marked = h .sized .marked; bound = h .bound })
+module _ (s : Setting) (k from count rest : ℕ) (m : Mem) (l : Layer) (p : Plan) (source : List ℕ) (h : Stretch s k from count rest m)
+    (el : l ≡ layerAt (s .table) (s .args) (k - 1)) (ep : p ≡ planOf l (s .width) (s .height)) (es : source ≡ sourceOf (s .samples) (l .source)) where
+  abbrev f : ℕ → Words
+  f = phasePixel (s .dst) (s .channels) p source (workOf (k - 1) m) k
 
--- what a phase leaves, with its layer decoded, is a run of the call's writes
-pub stretch-done : (s : Setting) (k from count rest : ℕ) (m m′ : Mem) (l : Layer) (p : Plan) (source : List ℕ) → Stretch s k from count rest m
-    → l ≡ layerAt (s .table) (s .args) (k - 1) → p ≡ planOf l (s .width) (s .height) → source ≡ sourceOf (s .samples) (l .source)
-    → m′ ≡ stretchOf k (phasePixel (s .dst) (s .channels) p source (workOf (k - 1) m) k) from count rest m
-    → (m′ ≡ runOf s (5 * positionOf m) (5 * count + rest) m) × (positionOf m′ ≡ positionOf m + count)
-stretch-done s k from count rest m m′ l p source h el ep es e = (
-  e ∙ stretch-run s k from m f (h .sized .marked) (h .position) right count rest (h .inside) (h .room) (omega (arith, h .few)),
-  ap positionOf e ∙ stretch-position k f from count rest m (h .few) (h .sized .marked),
-)
-  where
-    f : ℕ → Words
-    f = phasePixel (s .dst) (s .channels) p source (workOf (k - 1) m) k
+  abbrev by : Plan → List ℕ → ℕ → Words
+  by q src x = phasePixel (s .dst) (s .channels) q src (workOf (k - 1) m) k x
 
-    by : Plan → List ℕ → ℕ → Words
-    by q src x = phasePixel (s .dst) (s .channels) q src (workOf (k - 1) m) k x
+  -- the layer, decoded, gives the phase's pixels
+  right : (x : ℕ) → f x ≡ pixelOf s m k x
+  right x =
+      ap (λ (q : Plan). by q source x) ep
+      ∙ ap (λ (src : List ℕ). by (planOf l (s .width) (s .height)) src x) es
+      ∙ ap (λ (y : Layer). by (planOf y (s .width) (s .height)) (sourceOf (s .samples) (y .source)) x) el
+      ∙ phase-pixel s m k x
 
-    right : (x : ℕ) → f x ≡ pixelOf s m k x
-    right x =
-        ap (λ (q : Plan). by q source x) ep
-        ∙ ap (λ (src : List ℕ). by (planOf l (s .width) (s .height)) src x) es
-        ∙ ap (λ (y : Layer). by (planOf y (s .width) (s .height)) (sourceOf (s .samples) (y .source)) x) el
-        ∙ phase-pixel s m k x
+  -- what its phase leaves is a run of the call's writes
+  done : (n c : ℕ) → from + n ≤ area s → (0 < c → from + n < area s) → c ≤ 5 → stretchOf k f from n c m ≡ runOf s (5 * positionOf m) (5 * n + c) m
+  done = stretch-run s k from m f (h .sized .marked) (h .position) right
+
+  ahead : StretchAhead k f from (5 * count + rest) m
+  ahead = ahead-part (h .ahead) 0 (5 * count + rest) (omega arith) _ (λ t b.
+      done (t / 5) (t % 5) (omega (arith, h .inside, h .few)) (λ z. ⊎-elim (λ c. omega (arith, h .inside)) (λ c. omega (arith, h .room c, h .few)) (le-or-lt rest 0)) (omega arith)
+      ∙ ap (λ (x : ℕ). runOf s (5 * positionOf m) x m) (omega arith))
+
+  -- what its phase asks
+  pub phase-asks : GoodLayer (length (s .samples)) l
+      → Whole p (s .channels) (length (s .dst)) (length source) (length (m .work0)) (length (m .work1))
+      × (from + count ≤ p .dw * p .dh)
+      × (rest < 5)
+      × (0 < rest → from + count < p .dw * p .dh)
+      × Raised count m
+      × StretchAhead k f from (5 * count + rest) m
+  unfolding planOf
+  phase-asks g = (plan-whole s m l p source (h .sized) g ep es, rw ep (h .inside), h .few, rw ep (h .room), record { marked = h .sized .marked; bound = h .bound }, ahead)
+
+  -- what it leaves
+  pub stretch-done : (m′ : Mem) → m′ ≡ stretchOf k f from count rest m → (m′ ≡ runOf s (5 * positionOf m) (5 * count + rest) m) × (positionOf m′ ≡ positionOf m + count)
+  stretch-done m′ e = (
+    e ∙ done count rest (h .inside) (h .room) (omega (arith, h .few)),
+    ap positionOf e ∙ stretch-position k f from count rest m (h .few) (h .sized .marked),
+  )
 
 -- ---- stretch after stretch
 
@@ -125,6 +135,8 @@ pub record Turn (s : Setting) (start made done r : ℕ) (m₀ m : Mem) : Type 0 
   pub sized : Sized s m
   pub left : done < made
   pub fives : done % 5 ≡ 0
+  pub run : m ≡ runOf s (5 * start) done m₀
+  pub ahead : Ahead (made - done) (λ t. runOf s (5 * start) (done + t) m₀)
   pub at : positionOf m ≡ start + done / 5
   pub taken : r ≡ min (made - done) (5 * (area s - (start + done / 5) % area s))
 
@@ -144,6 +156,9 @@ module _ {s : Setting} {start made done r : ℕ} {m₀ m : Mem} (u : Turn s star
   pub due-some : 0 < r
   due-some = let b = due-below in some-of (made - done) _ r (u .taken) (omega (arith, u .left)) (omega arith)
 
+  next-run : (t : ℕ) (m′ : Mem) → m′ ≡ runOf s (5 * positionOf m) t m → m′ ≡ runOf s (5 * start) (done + t) m₀
+  next-run t m′ g = run-on s (5 * start) done t m₀ m m′ (5 * positionOf m) (done + t) (u .run) (omega (arith, u .at, u .fives)) g refl
+
   pub due-stretch : Stretch s ((start + done / 5) / area s) ((start + done / 5) % area s) (r / 5) (r % 5) m
   due-stretch =
       let b = due-below in
@@ -158,14 +173,18 @@ module _ {s : Setting} {start made done r : ℕ} {m₀ m : Mem} (u : Turn s star
         room = λ p. omega arith;
         position = u .at ∙ sym (div-add-mod' (start + done / 5) (area s));
         bound = omega (arith, u .due .bound, u .at, u .left, u .fives);
+        ahead = ahead-part (u .ahead) 0 (5 * (r / 5) + r % 5) (omega arith) _ (λ t z. next-run t _ refl ∙ ap (λ (x : ℕ). runOf s (5 * start) (done + x) m₀) (sym (zero-add t)));
       }
 
   -- and after it
   pub due-fives : done + r < made → (done + r) % 5 ≡ 0
   due-fives l = let x = other-of (made - done) _ r (u .taken) (omega (arith, u .left)) in omega (arith, x, u .fives)
 
-  pub due-run : (m′ : Mem) → m ≡ runOf s (5 * start) done m₀ → m′ ≡ runOf s (5 * positionOf m) (5 * (r / 5) + r % 5) m → m′ ≡ runOf s (5 * start) (done + r) m₀
-  due-run m′ f g = run-on s (5 * start) done (5 * (r / 5) + r % 5) m₀ m m′ (5 * positionOf m) (done + r) f (omega (arith, u .at, u .fives)) g (omega arith)
+  pub due-run : (m′ : Mem) → m′ ≡ runOf s (5 * positionOf m) (5 * (r / 5) + r % 5) m → m′ ≡ runOf s (5 * start) (done + r) m₀
+  due-run m′ g = next-run (5 * (r / 5) + r % 5) m′ g ∙ ap (λ (x : ℕ). runOf s (5 * start) (done + x) m₀) (omega arith)
+
+  pub due-ahead : Ahead (made - (done + r)) (λ t. runOf s (5 * start) (done + r + t) m₀)
+  due-ahead = ahead-part (u .ahead) r (made - (done + r)) (omega (arith, due-left)) _ (λ t z. ap (λ (x : ℕ). runOf s (5 * start) x m₀) (add-assoc done r t))
 
   pub due-position : (m′ : Mem) → positionOf m′ ≡ positionOf m + r / 5 → positionOf m′ ≡ start + (done + r) / 5
   due-position m′ g = omega (arith, u .at, u .fives)

@@ -2,7 +2,8 @@
 use mathlib.Core.Path.{_≡_, refl, sym, ap, _∙_}
 use mathlib.Core.Bool.{Bool, cond}
 use mathlib.Core.List.{List}
-use Prim.Native.Nat.{ℕ, zero, suc, _+_, _-_, _*_, _%_, _<_, _≤_, min}
+use mathlib.Core.Logic.{⊎-elim}
+use Prim.Native.Nat.{ℕ, zero, suc, _+_, _-_, _*_, _/_, _%_, _<_, _≤_, min}
 use native.Mathlib.Nat.{add-zero, zero-add, add-suc, add-assoc, min-le-left, min-le-right, le-min}
 use native.Mathlib.Numerals.{add-one}
 use native.Mathlib.Omega.{arith}
@@ -16,9 +17,10 @@ use Rattle.compose.specs.declared.Plan.{Plan}
 use Rattle.compose.specs.Compose.{planOf, sourceOf, composedBy}
 use Rattle.job.specs.Memory.{Mem, stored, workIn, workOf, positionOf}
 use Rattle.job.specs.Call.{Setting, area, pixelOf, runOf}
-use Rattle.job.specs.Steps.{someOf, pixelsOf, stretchOf, phasePixel, Whole, Raised, Room}
+use Rattle.job.specs.Steps.{someOf, pixelsOf, stretchOf, phasePixel, Whole, Raised, Room, PixelAhead, StretchAhead}
 use Rattle.pictures.proofs.FlatWords.{flat-pixel}
-use Rattle.job.proofs.Writes.{some-mark, five-position, five-mark}
+use Rattle.job.proofs.Uses.{ahead-part}
+use Rattle.job.proofs.Writes.{le-or-lt, some-mark, five-position, five-mark}
 use Rattle.job.proofs.Runs.{run-on, Under, under-pixel, under-write, uses}
 
 -- ---- what they leave
@@ -84,6 +86,42 @@ pixels-same k f g from zero m h = refl
 pixels-same k f g from (suc n) m h =
     ap (λ (r : Mem). someOf k (from + n) (f (from + n)) 5 r) (pixels-same k f g from n m (λ x l. h x (omega arith)))
     ∙ ap (λ (w : Words). someOf k (from + n) w 5 (pixelsOf k g from n m)) (h n (omega arith))
+
+-- ---- writes after writes
+
+pub stretch-split : (k : ℕ) (f : ℕ → Words) (from a n c : ℕ) (m : Mem) → stretchOf k f (from + a) n c (pixelsOf k f from a m) ≡ stretchOf k f from (a + n) c m
+stretch-split k f from a n c m =
+    ap (λ (r : Mem). someOf k (from + a + n) (f (from + a + n)) c r) (sym (pixels-split k f from a n m))
+    ∙ ap (λ (x : ℕ). someOf k x (f x) c (pixelsOf k f from (a + n) m)) (add-assoc from a n)
+
+-- the same words
+pub stretch-same : (k : ℕ) (f g : ℕ → Words) (from n c all : ℕ) (m : Mem) → 5 * n + c ≤ 5 * all → ((x : ℕ) → x < all → f (from + x) ≡ g (from + x)) → stretchOf k f from n c m ≡ stretchOf k g from n c m
+unfolding stored
+stretch-same k f g from n zero all m l h = pixels-same k f g from n m (λ x b. h x (omega arith))
+stretch-same k f g from n (suc c) all m l h =
+    ap (someOf k (from + n) (f (from + n)) (suc c)) (pixels-same k f g from n m (λ x b. h x (omega arith)))
+    ∙ ap (λ (w : Words). someOf k (from + n) w (suc c) (pixelsOf k g from n m)) (h n (omega arith))
+
+module _ (k : ℕ) (f : ℕ → Words) (from : ℕ) (m : Mem) where
+  -- by the number of the writes: five of a pixel are none of the next
+  stretch-at : (n c : ℕ) → c ≤ 5 → stretchOf k f from n c m ≡ stretchOf k f from ((5 * n + c) / 5) ((5 * n + c) % 5) m
+  unfolding pixelsOf stored
+  stretch-at n c h =
+      ⊎-elim
+      (λ l. let q : (5 * n + c) / 5 ≡ n = omega arith in let z : (5 * n + c) % 5 ≡ c = omega arith in rw (q, z))
+      (λ l.
+      let e : c ≡ 5 = omega arith in
+      let q : (5 * n + 5) / 5 ≡ suc n = omega arith in
+      let z : (5 * n + 5) % 5 ≡ 0 = omega arith in
+      rw (e, q, z))
+      (le-or-lt c 4)
+
+  -- of the writes ahead, those of one pixel
+  pub pixel-ahead : {n : ℕ} → StretchAhead k f from n m → (i c : ℕ) (w : Words) (m′ : Mem) → 5 * i + c ≤ n → c ≤ 5 → m′ ≡ pixelsOf k f from i m → w ≡ f (from + i) → PixelAhead k (from + i) w c m′
+  pixel-ahead u i c w m′ h l e g = ahead-part u (5 * i) c h _ (λ d b.
+      ap (λ (x : Words). someOf k (from + i) x d m′) g
+      ∙ ap (someOf k (from + i) (f (from + i)) d) e
+      ∙ stretch-at i d (omega arith))
 
 -- ---- they are the call's writes
 
@@ -189,30 +227,56 @@ raised-on k f from n all r m₀ m h e a l =
       bound = omega (arith, h .bound, ap positionOf e, pixels-position k f from m₀ (h .marked) n);
     }
 
--- one span more: r pixels filled into a buffer from the memory that is found, and written from it
-pub span-more : (dst : List ℕ) (channels : ℕ) (p : Plan) (source : List ℕ) (k from n r : ℕ) (out buf : List ℕ) (m₀ m m′ : Mem)
-    → m ≡ pixelsOf k (phasePixel dst channels p source (workOf (k - 1) m₀) k) from n m₀
-    → buf ≡ filled (λ x. phasePixel dst channels p source (workOf (k - 1) m) k (from + n + x)) r out
-    → m′ ≡ pixelsOf k (λ j. rgbaAt buf 4 (j - (from + n))) (from + n) r m
-    → m′ ≡ pixelsOf k (phasePixel dst channels p source (workOf (k - 1) m₀) k) from (n + r) m₀
-span-more dst channels p source k from n r out buf m₀ m m′ h e g =
-    g
-    ∙ pixels-same k _ f (from + n) r m (λ x l. same x l)
-    ∙ ap (λ (t : Mem). pixelsOf k f (from + n) r t) h
-    ∙ sym (pixels-split k f from n r m₀)
-  where
-    f : ℕ → Words
-    f = phasePixel dst channels p source (workOf (k - 1) m₀) k
+-- a span: r pixels filled into a buffer from the memory that is found, after n pixels
+module _ (dst : List ℕ) (channels : ℕ) (p : Plan) (source : List ℕ) (k from n r : ℕ) (out buf : List ℕ) (m₀ m : Mem)
+    (made : m ≡ pixelsOf k (phasePixel dst channels p source (workOf (k - 1) m₀) k) from n m₀)
+    (filling : buf ≡ filled (λ x. phasePixel dst channels p source (workOf (k - 1) m) k (from + n + x)) r out) where
+  abbrev f : ℕ → Words
+  f = phasePixel dst channels p source (workOf (k - 1) m₀) k
 
-    still : Under k m m₀
-    still = rw h (pixels-under k f from m₀ n)
+  abbrev buffered : ℕ → Words
+  buffered j = rgbaAt buf 4 (j - (from + n))
 
-    same : (x : ℕ) → x < r → rgbaAt buf 4 (from + n + x - (from + n)) ≡ f (from + n + x)
-    same x l =
-        let a : from + n + x - (from + n) ≡ x = omega arith in
-        ap (rgbaAt buf 4) a
-        ∙ filled-pixel (λ y. phasePixel dst channels p source (workOf (k - 1) m) k (from + n + y)) r out buf x e l
-        ∙ under-phase dst channels p source k m m₀ (from + n + x) still
+  still : Under k m m₀
+  still = rw made (pixels-under k f from m₀ n)
+
+  -- the buffer holds the phase's pixels
+  same : (x : ℕ) → x < r → buffered (from + n + x) ≡ f (from + n + x)
+  same x l =
+      let a : from + n + x - (from + n) ≡ x = omega arith in
+      ap (rgbaAt buf 4) a
+      ∙ filled-pixel (λ y. phasePixel dst channels p source (workOf (k - 1) m) k (from + n + y)) r out buf x filling l
+      ∙ under-phase dst channels p source k m m₀ (from + n + x) still
+
+  -- its writes are ahead
+  pub span-ahead : {all : ℕ} → StretchAhead k f from (5 * all) m₀ → n + r ≤ all → StretchAhead k buffered (from + n) (5 * r) m
+  span-ahead u h = ahead-part u (5 * n) (5 * r) (omega arith) _ each
+    where
+      each : (t : ℕ) → t ≤ 5 * r → stretchOf k buffered (from + n) (t / 5) (t % 5) m ≡ stretchOf k f from ((5 * n + t) / 5) ((5 * n + t) % 5) m₀
+      each t b =
+          let q : (5 * n + t) / 5 ≡ n + t / 5 = omega arith in
+          let z : (5 * n + t) % 5 ≡ t % 5 = omega arith in
+          stretch-same k buffered f (from + n) (t / 5) (t % 5) r m (omega arith) same
+          ∙ ap (λ (x : Mem). stretchOf k f (from + n) (t / 5) (t % 5) x) made
+          ∙ stretch-split k f from n (t / 5) (t % 5) m₀
+          ∙ rw (q, z)
+
+  -- and are made
+  pub span-more : (m′ : Mem) → m′ ≡ pixelsOf k buffered (from + n) r m → m′ ≡ pixelsOf k f from (n + r) m₀
+  span-more m′ g =
+      g
+      ∙ pixels-same k buffered f (from + n) r m same
+      ∙ ap (λ (t : Mem). pixelsOf k f (from + n) r t) made
+      ∙ sym (pixels-split k f from n r m₀)
+
+-- the pixel after n, as it is found there
+pub next-same : (dst : List ℕ) (channels : ℕ) (p : Plan) (source : List ℕ) (k from n : ℕ) (m m₁ : Mem)
+    → m₁ ≡ pixelsOf k (phasePixel dst channels p source (workOf (k - 1) m) k) from n m
+    → phasePixel dst channels p source (workOf (k - 1) m₁) k (from + n) ≡ phasePixel dst channels p source (workOf (k - 1) m) k (from + n)
+next-same dst channels p source k from n m m₁ h =
+    let f = phasePixel dst channels p source (workOf (k - 1) m) k in
+    let still : Under k m₁ m = rw h (pixels-under k f from m n) in
+    under-phase dst channels p source k m₁ m (from + n) still
 
 -- a whole stretch, as the code makes it
 pub stretch-made : (dst : List ℕ) (channels : ℕ) (p : Plan) (source : List ℕ) (k from n c : ℕ) (m m₁ m₂ : Mem)
@@ -221,7 +285,6 @@ pub stretch-made : (dst : List ℕ) (channels : ℕ) (p : Plan) (source : List �
     → m₂ ≡ stretchOf k (phasePixel dst channels p source (workOf (k - 1) m) k) from n c m
 stretch-made dst channels p source k from n c m m₁ m₂ h g =
     let f = phasePixel dst channels p source (workOf (k - 1) m) k in
-    let still : Under k m₁ m = rw h (pixels-under k f from m n) in
     g
-    ∙ ap (λ (w : Words). someOf k (from + n) w c m₁) (under-phase dst channels p source k m₁ m (from + n) still)
+    ∙ ap (λ (w : Words). someOf k (from + n) w c m₁) (next-same dst channels p source k from n m m₁ h)
     ∙ ap (λ (t : Mem). someOf k (from + n) (f (from + n)) c t) h

@@ -1,47 +1,52 @@
--- "After the i-th use, the memory that a call allowed i leaves": the writes of a call, one after the other. Assumes nothing.
-use mathlib.Core.Path.{_≡_, refl, ap, _∙_}
-use mathlib.Core.List.{List}
-use mathlib.Core.Logic.{⊎-elim}
-use Prim.Native.Nat.{ℕ, zero, suc, _+_, _-_, _*_, _/_, _%_, _≤_}
-use native.Mathlib.Nat.{min-eq-left, min-le-right}
+-- "After the c-th use of `store`, memory is what a call allowed c leaves": for the whole of a call, for a part of its writes, and for one write.
+-- Assumes nothing.
+use mathlib.Core.Path.{_≡_, refl, sym, ap, _∙_}
+use Prim.Native.Nat.{ℕ, zero, suc, _+_, _-_, _*_, _≤_}
+use native.Mathlib.Nat.{add-assoc, min-eq-left}
 use native.Mathlib.Omega.{arith}
-use lib.ListN.{length, take, length-append}
-use lib.Seq.{take-all, take-append-le}
 use borrow.Author.Tests.{eq-eqb}
 use Rattle.layers.specs.Inputs.{Inputs}
-use Rattle.job.specs.declared.Write.{Write}
-use Rattle.job.specs.Memory.{Mem, put, stored, positionOf}
+use Rattle.job.specs.Memory.{Mem, positionOf}
 use Rattle.job.specs.Job.{endOf, callFault}
-use Rattle.job.specs.Call.{Setting, settingOf, writeAt, runOf, traceOf, madeOf, acceptedOf, callOf}
-use Rattle.job.proofs.Writes.{le-or-lt, stored-snoc}
+use Rattle.job.specs.Call.{settingOf, runOf, acceptedOf, callOf}
+use Rattle.job.specs.Uses.{Ahead}
 
-trace-length : (s : Setting) (t n : ℕ) (m : Mem) → length (traceOf s t n m) ≡ n
-unfolding traceOf
-trace-length s t zero m = refl
-trace-length s t (suc n) m = length-append (traceOf s t n m) _ ∙ omega (arith, trace-length s t n m)
-
-trace-whole : (s : Setting) (t n : ℕ) (m : Mem) → stored (traceOf s t n m) m ≡ runOf s t n m
-unfolding traceOf runOf stored
-trace-whole s t zero m = refl
-trace-whole s t (suc n) m =
-    let w = writeAt s (runOf s t n m) ((t + n) / 5) ((t + n) % 5) in stored-snoc (traceOf s t n m) w m ∙ ap (put w) (trace-whole s t n m)
-
--- the first c of n writes are those that c writes make
-trace-part : (s : Setting) (t n c : ℕ) (m : Mem) → c ≤ n → take c (traceOf s t n m) ≡ traceOf s t c m
-unfolding traceOf
-trace-part s t zero c m h = let e : c ≡ 0 = omega arith in rw e refl
-trace-part s t (suc n) c m h =
-    ⊎-elim
-    (λ l. take-append-le c (traceOf s t n m) _ (rw (trace-length s t n m) l) ∙ trace-part s t n c m l)
-    (λ l. let e : c ≡ suc n = omega arith in rw e (take-all (suc n) (traceOf s t (suc n) m) (omega (arith, trace-length s t (suc n) m))))
-    (le-or-lt c n)
-
--- After the c-th use of `store` in a call, memory is what a call allowed c leaves.
-pub after-use : (i : Inputs) (m : Mem) → callFault i m .number ≡ 0 → (allowance c : ℕ) → c ≤ madeOf i allowance m
-    → stored (take c (traceOf (settingOf i) (5 * positionOf m) (madeOf i allowance m) m)) m ≡ callOf i c m .mem
+-- After the c-th write of an accepted call, memory is what a call allowed c leaves.
+pub after-use : (i : Inputs) (m : Mem) → callFault i m .number ≡ 0 → (c : ℕ) → c ≤ 5 * (endOf i - positionOf m)
+    → runOf (settingOf i) (5 * positionOf m) c m ≡ callOf i c m .mem
 unfolding callOf acceptedOf
-after-use i m e allowance c h =
-    let l : c ≤ 5 * (endOf i - positionOf m) = omega (arith, min-le-right allowance (5 * (endOf i - positionOf m))) in
-    ap (λ (ws : List Write). stored ws m) (trace-part (settingOf i) (5 * positionOf m) (madeOf i allowance m) c m h)
-    ∙ trace-whole (settingOf i) (5 * positionOf m) c m
-    ∙ rw (eq-eqb (callFault i m .number) 0 e, min-eq-left l)
+after-use i m e c l = rw (eq-eqb (callFault i m .number) 0 e, min-eq-left l)
+
+-- so the writes of a call are ahead when it begins
+pub ahead-of : (i : Inputs) (m : Mem) → callFault i m .number ≡ 0 → (n : ℕ) → n ≤ 5 * (endOf i - positionOf m)
+    → Ahead n (λ t. runOf (settingOf i) (5 * positionOf m) t m)
+ahead-of i m e n l = record {
+  inputs = i;
+  found = m;
+  made = 0;
+  accepted = e;
+  left = omega arith;
+  each = λ c h. after-use i m e c (omega arith) ∙ ap (λ (x : ℕ). callOf i x m .mem) (omega arith);
+}
+
+-- of n writes ahead, the first b
+pub ahead-first : {n : ℕ} {after : ℕ → Mem} → Ahead n after → (b : ℕ) → b ≤ n → Ahead b after
+ahead-first u b h = record {
+  inputs = u .inputs;
+  found = u .found;
+  made = u .made;
+  accepted = u .accepted;
+  left = omega (arith, u .left);
+  each = λ c l. u .each c (omega arith);
+}
+
+-- and b that come after the first a
+pub ahead-part : {n : ℕ} {after : ℕ → Mem} → Ahead n after → (a b : ℕ) → a + b ≤ n → (after′ : ℕ → Mem) → ((c : ℕ) → c ≤ b → after′ c ≡ after (a + c)) → Ahead b after′
+ahead-part u a b h after′ e = record {
+  inputs = u .inputs;
+  found = u .found;
+  made = u .made + a;
+  accepted = u .accepted;
+  left = omega (arith, u .left);
+  each = λ c l. e c l ∙ u .each (a + c) (omega arith) ∙ ap (λ (x : ℕ). callOf (u .inputs) x (u .found) .mem) (sym (add-assoc (u .made) a c));
+}

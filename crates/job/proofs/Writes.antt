@@ -15,7 +15,8 @@ use Rattle.pictures.specs.declared.Words.{Words}
 use Rattle.job.specs.declared.Write.{Write}
 use Rattle.job.specs.declared.Write.the-variants.{Work0, Work1, Checkpoint}
 use Rattle.job.specs.Memory.{Mem, put, InRange, stored, workOf, wordWrite, fiveWrites, positionOf}
-use Rattle.job.specs.Steps.{someOf, Room, DueWrite}
+use Rattle.job.specs.Steps.{someOf, Room, DueWrite, PixelAhead}
+use Rattle.job.proofs.Uses.{ahead-part}
 
 pub le-or-lt : (a b : ℕ) → (a ≤ b) ⊎ (b < a)
 le-or-lt a b = go (leb a b) refl
@@ -164,13 +165,12 @@ pub due-range : (k j : ℕ) (w : Words) (c : ℕ) (m : Mem) (word : ℕ) → Roo
 due-range k j w c m word r h = word-range (4 * j + c) word m k (omega (arith, r .in0)) (omega (arith, r .in1))
 
 -- a word of the pixel, and the position
-pub step-word : (k j : ℕ) (w : Words) (c : ℕ) (m : Mem) (word : ℕ) → c < 4 → word ≡ getD (w .r ∷ w .g ∷ w .b ∷ w .a ∷ []) c 0
-    → put (wordWrite k (4 * j + c) word) m ≡ put (getD (fiveWrites k j w (positionOf m + 1)) c (Checkpoint 0)) m
-step-word k j w c m word h e =
-    ap (λ (x : Write). put x m) (ap (wordWrite k (4 * j + c)) e ∙ sym (word-at k j w (positionOf m + 1) (Checkpoint 0) c h))
+pub step-word : (k j : ℕ) (w : Words) (q c word : ℕ) → c < 4 → word ≡ getD (w .r ∷ w .g ∷ w .b ∷ w .a ∷ []) c 0
+    → wordWrite k (4 * j + c) word ≡ getD (fiveWrites k j w q) c (Checkpoint 0)
+step-word k j w q c word h e = ap (wordWrite k (4 * j + c)) e ∙ sym (word-at k j w q (Checkpoint 0) c h)
 
-pub step-position : (k j : ℕ) (w : Words) (c : ℕ) (m : Mem) → c ≡ 4 → put (Checkpoint (positionOf m + 1)) m ≡ put (getD (fiveWrites k j w (positionOf m + 1)) c (Checkpoint 0)) m
-step-position k j w c m e = rw e
+pub step-position : (k j : ℕ) (w : Words) (q c : ℕ) → c ≡ 4 → Checkpoint q ≡ getD (fiveWrites k j w q) c (Checkpoint 0)
+step-position k j w q c e = rw e
 
 -- c of the five writes have been made, from the memory m₀ on
 pub record Begun (k j : ℕ) (w : Words) (c : ℕ) (m₀ m : Mem) : Type 0 where
@@ -183,11 +183,18 @@ pub begun-none : (k j : ℕ) (w : Words) (m : Mem) → Begun k j w 0 m m
 begun-none k j w m = record { same = some-none k j w 0 m refl; length0 = refl; length1 = refl; length-mark = refl }
 
 module _ {k j : ℕ} {w : Words} {c : ℕ} {m₀ m : Mem} (h : c < 5) (g : Begun k j w c m₀ m) where
+  abbrev due-write : Write
+  due-write = getD (fiveWrites k j w (positionOf m + 1)) c (Checkpoint 0)
+
+  one-more : (d : ℕ) → d ≤ 1 → stored (take d (due-write ∷ [])) m ≡ someOf k j w (c + d) m₀
+  unfolding stored
+  one-more zero l = g .same ∙ ap (λ (x : ℕ). someOf k j w x m₀) (sym (add-zero c))
+  one-more (suc zero) l = some-more k j w c m₀ m (put due-write m) h (g .same) refl
+  one-more (suc (suc d)) l = absurd (omega arith)
+
   -- the next is due
-  pub begun-due : Room j m₀ → DueWrite k j w c m
-  begun-due r = record {
-    from = m₀;
-    after = g .same;
+  pub begun-due : {n : ℕ} → c < n → Room j m₀ → PixelAhead k j w n m₀ → DueWrite k j w c m
+  begun-due l r u = record {
     few = h;
     room = record {
       in0 = rw (g .length0) (r .in0);
@@ -195,6 +202,7 @@ module _ {k j : ℕ} {w : Words} {c : ℕ} {m₀ m : Mem} (h : c < 5) (g : Begun
       marked = rw (g .length-mark) (r .marked);
       bound = rw (ap positionOf (g .same) ∙ ap (λ (l : List ℕ). getD l 0 0) (some-mark k j w c m₀ h)) (r .bound);
     };
+    next = ahead-part u c 1 (omega arith) _ one-more;
   }
 
   -- and has been made

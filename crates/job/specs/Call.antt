@@ -1,6 +1,6 @@
 -- What one call of a job leaves and answers, for every input and every memory that it is lent (document 01, "Stores and the mark"). Definitions only.
 use mathlib.Core.Bool.{cond}
-use mathlib.Core.List.{List, [], _∷_, _++_}
+use mathlib.Core.List.{List}
 use Prim.Native.Nat.{ℕ, zero, suc, _+_, _-_, _*_, _/_, _%_, min}
 use lib.Dec.{eqb}
 use lib.IntN.{ℤ}
@@ -62,11 +62,6 @@ writeAt s m p c = getD (fiveWrites (p / area s) (p % area s) (pixelOf s m (p / a
 unfoldable pub runOf : Setting → (t n : ℕ) → Mem → Mem
 runOf s t zero m = m
 runOf s t (suc n) m = let before = runOf s t n m in put (writeAt s before ((t + n) / 5) ((t + n) % 5)) before
-
--- the writes themselves, in their order
-unfoldable pub traceOf : Setting → (t n : ℕ) → Mem → List Write
-traceOf s t zero m = []
-traceOf s t (suc n) m = traceOf s t n m ++ (writeAt s (runOf s t n m) ((t + n) / 5) ((t + n) % 5) ∷ [])
 
 -- ---- a call
 

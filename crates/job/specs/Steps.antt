@@ -1,8 +1,8 @@
 -- What the functions beneath a call do to the memory, and what they ask. Definitions only.
 use mathlib.Core.Path.{_≡_}
 use mathlib.Core.List.{List}
-use Prim.Native.Nat.{ℕ, zero, suc, _+_, _-_, _*_, _/_, _<_, _≤_}
-use lib.ListN.{length, take}
+use Prim.Native.Nat.{ℕ, zero, suc, _+_, _-_, _*_, _/_, _%_, _<_, _≤_}
+use lib.ListN.{length, getD, take}
 use Rattle.places.specs.Bounds.{slack}
 use Rattle.layers.proofs.Accepted.{GoodLayer}
 use Rattle.layers.specs.Layers.{layerAt}
@@ -12,8 +12,10 @@ use Rattle.pictures.specs.Widen.{rgbaAt, valuesOf}
 use Rattle.compose.specs.declared.Plan.{Plan}
 use Rattle.compose.specs.Compose.{composedBy}
 use Rattle.compose.specs.Ready.{Ready}
+use Rattle.job.specs.declared.Write.the-variants.{Checkpoint}
 use Rattle.job.specs.Memory.{Mem, positionOf, stored, fiveWrites}
-use Rattle.job.specs.Call.{Setting, area}
+use Rattle.job.specs.Call.{Setting, area, runOf}
+use Rattle.job.specs.Uses.{Ahead, Use}
 
 -- the first c of the five writes of pixel j of picture k, with the words w: the position is raised by one
 abbrev pub someOf : (k j : ℕ) → Words → (c : ℕ) → Mem → Mem
@@ -30,12 +32,15 @@ pub record Room (j : ℕ) (m : Mem) : Type 0 where
   pub marked : 0 < length (m .mark)
   pub bound : positionOf m < mostPosition
 
--- Write c of the five is due: memory is what the c writes before it leave, made from some memory on.
+-- write c of the five is due: it is the next of a call
 pub record DueWrite (k j : ℕ) (w : Words) (c : ℕ) (m : Mem) : Type 0 where
-  pub from : Mem
-  pub after : m ≡ someOf k j w c from
   pub few : c < 5
   pub room : Room j m
+  pub next : Use m (getD (fiveWrites k j w (positionOf m + 1)) c (Checkpoint 0))
+
+-- the first n writes of pixel j are the next of a call
+abbrev pub PixelAhead : (k j : ℕ) → Words → (n : ℕ) → Mem → Type 0
+PixelAhead k j w n m = Ahead n (λ c. someOf k j w c m)
 
 -- n whole pixels of picture k from pixel `from` on, pixel j with the words f j
 unfoldable pub pixelsOf : (k : ℕ) → (ℕ → Words) → (from n : ℕ) → Mem → Mem
@@ -45,6 +50,10 @@ pixelsOf k f from (suc n) m = let before = pixelsOf k f from n m in someOf k (fr
 -- whole pixels of picture k, n of them, and the first c writes of the next
 abbrev pub stretchOf : (k : ℕ) → (ℕ → Words) → (from n c : ℕ) → Mem → Mem
 stretchOf k f from n c m = someOf k (from + n) (f (from + n)) c (pixelsOf k f from n m)
+
+-- n writes of picture k, from pixel `from` on, are the next of a call
+abbrev pub StretchAhead : (k : ℕ) → (ℕ → Words) → (from n : ℕ) → Mem → Type 0
+StretchAhead k f from n m = Ahead n (λ t. stretchOf k f from (t / 5) (t % 5) m)
 
 -- Pixel j of phase k with its layer decoded: of the destination for phase 0, else by the plan and its source on the picture beneath.
 unfoldable pub phasePixel : (dst : List ℕ) → (channels : ℕ) → Plan → (source beneath : List ℕ) → (k j : ℕ) → Words
@@ -94,6 +103,7 @@ pub record Stretch (s : Setting) (k from count rest : ℕ) (m : Mem) : Type 0 wh
   pub room : 0 < rest → from + count < area s
   pub position : positionOf m ≡ k * area s + from
   pub bound : positionOf m + count < mostPosition
+  pub ahead : Ahead (5 * count + rest) (λ t. runOf s (5 * positionOf m) t m)
 
 -- what the writes of a call ask: so many from the position on
 pub record Due (s : Setting) (start made : ℕ) (m : Mem) : Type 0 where
@@ -102,3 +112,4 @@ pub record Due (s : Setting) (start made : ℕ) (m : Mem) : Type 0 where
   pub some : 0 < made → 0 < area s
   pub position : positionOf m ≡ start
   pub bound : 5 * start + made < mostPosition
+  pub ahead : Ahead made (λ t. runOf s (5 * start) t m)

@@ -5,7 +5,7 @@ ghost use lib.ListN.{length};
 ghost use Rattle.pictures.specs.Widen.{rgbaAt};
 ghost use Rattle.pictures.specs.FlatWords.{filled};
 ghost use Rattle.job.specs.Memory.{memOf, workIn, workOf};
-ghost use Rattle.job.specs.Steps.{someOf, pixelsOf, stretchOf, phasePixel, Whole, Raised};
+ghost use Rattle.job.specs.Steps.{someOf, pixelsOf, stretchOf, phasePixel, Whole, Raised, PixelAhead, StretchAhead};
 use crate::store::five;
 use crate::store::step;
 use compose::Plan;
@@ -74,6 +74,7 @@ fn write_out(
         × (4 * (from + count) ≤ length (now work0))
         × (4 * (from + count) ≤ length (now work1))
         × (Raised count (memOf (now work0) (now work1) (now mark)))
+        × (StretchAhead k (λ j. rgbaAt (now buf) 4 (j - from)) from (5 * count) (memOf (now work0) (now work1) (now mark)))
         ⌝ }
     ensures { λ _. ⌜
         memOf (now (work0 .exit)) (now (work1 .exit)) (now (mark .exit))
@@ -105,6 +106,7 @@ fn spans(
         (Whole p channels (length (now dst)) (length (now source)) (length (now work0)) (length (now work1)))
         × (from + count ≤ p .dw * p .dh)
         × (Raised count (memOf (now work0) (now work1) (now mark)))
+        × (StretchAhead k (phasePixel (now dst) channels p (now source) (workOf (k - 1) (memOf (now work0) (now work1) (now mark))) k) from (5 * count) (memOf (now work0) (now work1) (now mark)))
         ⌝ }
     ensures { λ _. ⌜
         memOf (now (work0 .exit)) (now (work1 .exit)) (now (mark .exit))
@@ -150,6 +152,7 @@ fn tail(
         × (count < 5)
         × (0 < count → j < p .dw * p .dh)
         × (Raised 0 (memOf (now work0) (now work1) (now mark)))
+        × (PixelAhead k j (phasePixel (now dst) channels p (now source) (workOf (k - 1) (memOf (now work0) (now work1) (now mark))) k j) count (memOf (now work0) (now work1) (now mark)))
         ⌝ }
     ensures { λ _. ⌜
         memOf (now (work0 .exit)) (now (work1 .exit)) (now (mark .exit))
@@ -189,6 +192,7 @@ pub fn phase(
         × (rest < 5)
         × (0 < rest → from + count < p .dw * p .dh)
         × (Raised count (memOf (now work0) (now work1) (now mark)))
+        × (StretchAhead k (phasePixel (now dst) channels p (now source) (workOf (k - 1) (memOf (now work0) (now work1) (now mark))) k) from (5 * count + rest) (memOf (now work0) (now work1) (now mark)))
         ⌝ }
     ensures { λ _. ⌜
         memOf (now (work0 .exit)) (now (work1 .exit)) (now (mark .exit))

@@ -5,13 +5,15 @@ ghost use Prim.Native.Nat.{_+_, _<_};
 ghost use lib.ListN.{getD};
 ghost use Rattle.job.specs.declared.Write.the-variants.{Checkpoint};
 ghost use Rattle.job.specs.Memory.{memOf, put, InRange, wordWrite, fiveWrites, positionOf};
-ghost use Rattle.job.specs.Steps.{someOf, Room, DueWrite};
+ghost use Rattle.job.specs.Uses.{Use};
+ghost use Rattle.job.specs.Steps.{someOf, Room, DueWrite, PixelAhead};
 use crate::Write;
 use pictures::Words;
 
-// The one function that writes: it changes the one number that the write names.
+// The one function that writes: it changes the one number that the write names. Each use of it is asked to be the next write of a call: before it
+// memory is what a call allowed so many leaves, and after it what the same call, allowed one more, leaves.
 pub fn store(work0: &mut [u32], work1: &mut [u32], mark: &mut [u64], w: Write)
-    requires { ⌜ InRange (memOf (now work0) (now work1) (now mark)) w ⌝ }
+    requires { ⌜ (InRange (memOf (now work0) (now work1) (now mark)) w) × (Use (memOf (now work0) (now work1) (now mark)) w) ⌝ }
     ensures { λ _. ⌜ memOf (now (work0 .exit)) (now (work1 .exit)) (now (mark .exit)) ≡ put w (memOf (now (work0 .entry)) (now (work1 .entry)) (now (mark .entry))) ⌝ }
 {
     match w {
@@ -54,8 +56,7 @@ fn channel(w: Words, c: usize) -> u32
     w.a
 }
 
-// Write c of the five of pixel j of picture k: red, green, blue, alpha, then the position. Those before it must have been made: the position is
-// raised over a whole pixel. It is read back from the checkpoint, after alpha's write, so that the compiled writes keep their order.
+// Write c of the five of pixel j of picture k: red, green, blue, alpha, then the position. It must be the next write of a call. The position is read back from the checkpoint, after alpha's write, so that the compiled writes keep their order.
 pub fn step(
     work0: &mut [u32],
     work1: &mut [u32],
@@ -81,7 +82,7 @@ pub fn step(
 
 // Red, green and blue of pixel j of picture k.
 fn three(work0: &mut [u32], work1: &mut [u32], mark: &mut [u64], k: usize, j: usize, w: Words)
-    requires { ⌜ Room j (memOf (now work0) (now work1) (now mark)) ⌝ }
+    requires { ⌜ (Room j (memOf (now work0) (now work1) (now mark))) × (PixelAhead k j w 3 (memOf (now work0) (now work1) (now mark))) ⌝ }
     ensures { λ _. ⌜ memOf (now (work0 .exit)) (now (work1 .exit)) (now (mark .exit)) ≡ someOf k j w 3 (memOf (now (work0 .entry)) (now (work1 .entry)) (now (mark .entry))) ⌝ }
 {
     step(work0, work1, mark, k, j, w, 0);
@@ -91,7 +92,7 @@ fn three(work0: &mut [u32], work1: &mut [u32], mark: &mut [u64], k: usize, j: us
 
 // The five writes of pixel j of picture k.
 pub fn five(work0: &mut [u32], work1: &mut [u32], mark: &mut [u64], k: usize, j: usize, w: Words)
-    requires { ⌜ Room j (memOf (now work0) (now work1) (now mark)) ⌝ }
+    requires { ⌜ (Room j (memOf (now work0) (now work1) (now mark))) × (PixelAhead k j w 5 (memOf (now work0) (now work1) (now mark))) ⌝ }
     ensures { λ _. ⌜ memOf (now (work0 .exit)) (now (work1 .exit)) (now (mark .exit)) ≡ someOf k j w 5 (memOf (now (work0 .entry)) (now (work1 .entry)) (now (mark .entry))) ⌝ }
 {
     three(work0, work1, mark, k, j, w);

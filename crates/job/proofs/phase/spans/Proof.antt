@@ -6,16 +6,10 @@ use lib.ListN.{length}
 use Rattle.pictures.specs.declared.Words.{Words}
 use Rattle.job.specs.Memory.{Mem, memOf, workOf}
 use Rattle.job.specs.Steps.{pixelsOf, phasePixel}
-use Rattle.job.proofs.Stretches.{pixels-none, span-more, part-of, some-of, whole-still, raised-on}
+use Rattle.job.proofs.Stretches.{pixels-none, span-ahead, span-more, part-of, some-of, whole-still, raised-on}
 use native.Mathlib.Omega.{arith}
 use Rattle.job.proofs.phase.spans.Statement.{statement}
 use Rattle.job.proofs.phase.spans.Tie as tie
-
--- The invariant: memory is what i whole pixels of the phase leave, and the lists have kept their lengths. The measure is what is left of the pixels. Assumes nothing.
-
--- The invariant: memory is what i whole pixels of the phase leave, and the lists have kept their lengths. The measure is what is left of the pixels. Assumes nothing.
-
--- The invariant: memory is what i whole pixels of the phase leave, and the lists have kept their lengths. The measure is what is left of the pixels. Assumes nothing.
 
 abbrev Inv-loop : tie.InvT-loop
 Inv-loop dst channels p source k from count work0₀ work1₀ mark₀ buf₀ i₀ work0 work1 mark buf i =
@@ -43,8 +37,6 @@ pixel s = phasePixel (s .args .dst .now) (s .args .channels) (s .args .p) (s .ar
 part : (c : tie.After-least Inv-loop μ-loop) → (c .least .result ≤ 64) × (c .least .result ≤ c .before .before .before .before .before .before .before .before .args .count - c .before .before .loop .i)
 part c = part-of 64 _ _ (c .least .ensures)
 
--- pixel j of the phase
--- the span that is next
 loop-holds : tie.Need-loop-holds Inv-loop μ-loop
 loop-holds c = let s = (c .before .before .before .before .before) in (omega arith, pixels-none (s .args .k) (pixel s) (s .args .from) (memory s), refl, refl, refl, refl)
 
@@ -84,6 +76,7 @@ write-out-requires c κs =
       omega (arith, s .pre .1, r .1, h .work0-length, v .2),
       omega (arith, s .pre .1, r .1, h .work1-length, v .3),
       raised-on (s .args .k) (pixel s) (s .args .from) (l .loop .i) (s .args .count) _ (memory s) (found l) (s .pre .2) (v .1) (v .0) (r .1),
+      span-ahead (s .args .dst .now) (s .args .channels) (s .args .p) (s .args .source .now) (s .args .k) (s .args .from) (l .loop .i) _ (l .loop .buf) _ (memory s) (found l) (v .1) (c .before .before .before .before .before .fill .ensures) (s .pre .3) (omega (arith, v .0, r .1)),
     )
 
 add-i : tie.Need-add-i Inv-loop μ-loop
@@ -107,7 +100,7 @@ loop-again c =
     let m′ = memOf (f .last .1 .1 .1 .1 .0) (f .last .1 .1 .1 .1 .1 .0) (f .last .1 .1 .1 .1 .1 .1 .0) in
     let buf = c .before .before .before .before .before .before .before .before .before .before .before .before .fill .last .1 .1 .1 .1 .1 .1 .1 .1 .1 .0 in (
       omega (arith, part (c .before .before .before .before .before .before .before .before .before .before .before .before .before .before .before .before) .1, v .0),
-      span-more (s .args .dst .now) (s .args .channels) (s .args .p) (s .args .source .now) (s .args .k) (s .args .from) (l .loop .i) n (l .loop .buf) buf (memory s) (found l) m′ (v .1) (c .before .before .before .before .before .before .before .before .before .before .before .before .fill .ensures) (f .ensures),
+      span-more (s .args .dst .now) (s .args .channels) (s .args .p) (s .args .source .now) (s .args .k) (s .args .from) (l .loop .i) n (l .loop .buf) buf (memory s) (found l) (v .1) (c .before .before .before .before .before .before .before .before .before .before .before .before .fill .ensures) m′ (f .ensures),
       f .kept .1 .1 .1 .1 .0 ∙ v .2,
       f .kept .1 .1 .1 .1 .1 .0 ∙ v .3,
       f .kept .1 .1 .1 .1 .1 .1 .0 ∙ v .4,

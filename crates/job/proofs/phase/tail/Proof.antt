@@ -1,19 +1,17 @@
 -- `job::phase::tail` meets its contract.
 -- The invariant: c of the writes have been made. The measure is what is left of them. Assumes nothing.
 use Prim.Native.Nat.{ℕ, _+_, _-_, _≤_}
-use mathlib.Core.Path.{_≡_, refl, sym, ap, _∙_}
+use mathlib.Core.Path.{_≡_, refl, sym, ap, _∙_, subst⁻¹}
 use mathlib.Core.List.{[], _∷_}
 use Rattle.pictures.specs.declared.Words.{Words}
 use native.Mathlib.Nat.{add-zero}
 use Rattle.job.specs.Memory.{Mem, memOf, workOf}
-use Rattle.job.specs.Steps.{someOf, phasePixel}
+use Rattle.job.specs.Steps.{someOf, phasePixel, PixelAhead}
 use Rattle.job.proofs.Stretches.{filled-pixel, pixel-room}
 use Rattle.job.proofs.Writes.{Begun, begun-none, begun-due, begun-more, some-none}
 use native.Mathlib.Omega.{arith}
 use Rattle.job.proofs.phase.tail.Statement.{statement}
 use Rattle.job.proofs.phase.tail.Tie as tie
-
--- The invariant: c of the writes have been made. The measure is what is left of them. Assumes nothing.
 
 abbrev Inv-loop : tie.InvT-loop
 Inv-loop dst channels source k j count work0₀ work1₀ mark₀ w c₀ work0 work1 mark c = (c ≤ count) × Begun k j w c (memOf work0₀ work1₀ mark₀) (memOf work0 work1 mark)
@@ -27,6 +25,14 @@ memory s = memOf (s .args .work0 .now) (s .args .work1 .now) (s .args .mark .now
 -- pixel j of the phase
 abbrev pixel : tie.Start Inv-loop μ-loop → ℕ → Words
 pixel s = phasePixel (s .args .dst .now) (s .args .channels) (s .args .p) (s .args .source .now) (workOf (s .args .k - 1) (memory s)) (s .args .k)
+
+-- the words that were composed
+words : (c : tie.After-rgba-at Inv-loop μ-loop) → let s = c .before .before .before .before .before .before .before .before .before .before .before .before .before in c .rgba-at .result ≡ pixel s (s .args .j)
+words c =
+    let s = c .before .before .before .before .before .before .before .before .before .before .before .before .before in
+    c .rgba-at .ensures
+    ∙ filled-pixel (λ x. pixel s (s .args .j + x)) 1 (0 ∷ 0 ∷ 0 ∷ 0 ∷ []) _ 0 (c .before .before .before .fill .ensures) (omega arith)
+    ∙ ap (pixel s) (add-zero (s .args .j))
 
 returns : tie.Need-returns Inv-loop μ-loop
 returns c = let s = (c .before .before .before .before .before .before) in some-none (s .args .k) (s .args .j) _ (s .args .count) (memory s) (c .if1 .taken)
@@ -50,7 +56,7 @@ step-requires : tie.Need-step-requires Inv-loop μ-loop
 step-requires c κs =
     let s = (c .before .before .before .before .before .before .before .before .before .before .before .before .before .before .before .before .before .before) in
     let r = pixel-room _ _ _ _ (s .args .j) (memory s) (s .pre .0) (s .pre .2 (omega (arith, c .before .before .before .before .before .before .before .before .before .before .before .before .if1))) (s .pre .3) in
-    begun-due (omega (arith, s .pre .1, c .before .before .before .loop-test)) (c .before .before .before .before .loop .inv .1) r
+    begun-due (omega (arith, s .pre .1, c .before .before .before .loop-test)) (c .before .before .before .before .loop .inv .1) (omega (arith, c .before .before .before .loop-test)) r (subst⁻¹ (λ (x : Words). PixelAhead (s .args .k) (s .args .j) x (s .args .count) (memory s)) (words (c .before .before .before .before .before)) (s .pre .4))
 
 add-c : tie.Need-add-c Inv-loop μ-loop
 add-c c = omega (arith, (c .before .before .before .before .before .before .before .before .before .before .before .before .before .before .before .before .before .before .before .before .before .before .before .before .before) .pre .1, c .before .before .before .before .before .before .before .before .before .before .loop-test)
@@ -76,15 +82,10 @@ returns-2 : tie.Need-returns-2 Inv-loop μ-loop
 returns-2 c =
     let s = (c .before .before .before .before .before .before .before .before .before .before .before .before .before .before .before) in
     let v = c .before .loop .inv in
-    let one = c .before .before .before .before .before .fill .last .1 .1 .1 .1 .1 .1 .1 .1 .1 .0 in
     let e : c .before .loop .c ≡ s .args .count = omega (arith, v .0) in
-    let w : c .before .before .rgba-at .result ≡ pixel s (s .args .j) =
-    c .before .before .rgba-at .ensures
-    ∙ filled-pixel (λ x. pixel s (s .args .j + x)) 1 (0 ∷ 0 ∷ 0 ∷ 0 ∷ []) one 0 (c .before .before .before .before .before .fill .ensures) (omega arith)
-    ∙ ap (pixel s) (add-zero (s .args .j)) in
     v .1 .same
     ∙ ap (λ (x : ℕ). someOf (s .args .k) (s .args .j) (c .before .before .rgba-at .result) x (memory s)) e
-    ∙ ap (λ (x : Words). someOf (s .args .k) (s .args .j) x (s .args .count) (memory s)) w
+    ∙ ap (λ (x : Words). someOf (s .args .k) (s .args .j) x (s .args .count) (memory s)) (words (c .before .before))
 
 pub tail-spec : {M : Type 1} → statement M
 tail-spec =

@@ -7,16 +7,10 @@ use Rattle.pictures.specs.Widen.{rgbaAt}
 use Rattle.pictures.specs.declared.Words.{Words}
 use Rattle.job.specs.Memory.{Mem, memOf, positionOf}
 use Rattle.job.specs.Steps.{pixelsOf}
-use Rattle.job.proofs.Stretches.{pixels-none, pixels-more, pixels-position}
+use Rattle.job.proofs.Stretches.{pixels-none, pixels-more, pixels-position, pixel-ahead}
 use native.Mathlib.Omega.{arith}
 use Rattle.job.proofs.phase.write_out.Statement.{statement}
 use Rattle.job.proofs.phase.write_out.Tie as tie
-
--- The invariant: memory is what i whole pixels leave, and the lists have kept their lengths. The measure is what is left of the pixels. Assumes nothing.
-
--- The invariant: memory is what i whole pixels leave, and the lists have kept their lengths. The measure is what is left of the pixels. Assumes nothing.
-
--- The invariant: memory is what i whole pixels leave, and the lists have kept their lengths. The measure is what is left of the pixels. Assumes nothing.
 
 abbrev Inv-loop : tie.InvT-loop
 Inv-loop buf k from count work0₀ work1₀ mark₀ i₀ work0 work1 mark i =
@@ -39,6 +33,13 @@ found c = memOf (c .loop .work0) (c .loop .work1) (c .loop .mark)
 abbrev buffered : tie.Start Inv-loop μ-loop → ℕ → Words
 buffered s j = rgbaAt (s .args .buf .now) 4 (j - s .args .from)
 
+-- the words of the pixel that is next
+words : (c : tie.After-rgba-at Inv-loop μ-loop) → let s = c .before .before .before .before .before .before .before in c .rgba-at .result ≡ buffered s (s .args .from + c .before .before .loop .i)
+words c =
+    let s = c .before .before .before .before .before .before .before in
+    let i = c .before .before .loop .i in
+    let e : i ≡ s .args .from + i - s .args .from = omega arith in c .rgba-at .ensures ∙ ap (rgbaAt (s .args .buf .now) 4) e
+
 loop-holds : tie.Need-loop-holds Inv-loop μ-loop
 loop-holds c = let s = (c .before .before .before .before) in (omega arith, pixels-none (s .args .k) (buffered s) (s .args .from) (memory s), refl, refl, refl)
 
@@ -55,13 +56,15 @@ five-requires c κs =
     let v = l .loop .inv in
     let q = s .pre .3 in
     let e : positionOf (found l) ≡ positionOf (memory s) + l .loop .i =
-    ap positionOf (v .1) ∙ pixels-position (s .args .k) (buffered s) (s .args .from) (memory s) (q .marked) (l .loop .i) in
-    record {
-      in0 = omega (arith, s .pre .1, v .2, c .before .before .before .before .loop-test);
-      in1 = omega (arith, s .pre .2, v .3, c .before .before .before .before .loop-test);
-      marked = omega (arith, q .marked, v .4);
-      bound = omega (arith, e, q .bound, c .before .before .before .before .loop-test);
-    }
+    ap positionOf (v .1) ∙ pixels-position (s .args .k) (buffered s) (s .args .from) (memory s) (q .marked) (l .loop .i) in (
+      record {
+        in0 = omega (arith, s .pre .1, v .2, c .before .before .before .before .loop-test);
+        in1 = omega (arith, s .pre .2, v .3, c .before .before .before .before .loop-test);
+        marked = omega (arith, q .marked, v .4);
+        bound = omega (arith, e, q .bound, c .before .before .before .before .loop-test);
+      },
+      pixel-ahead (s .args .k) (buffered s) (s .args .from) (memory s) (s .pre .4) (l .loop .i) 5 _ (found l) (omega (arith, c .before .before .before .before .loop-test)) (omega arith) (v .1) (words (c .before .before .before)),
+    )
 
 add-i : tie.Need-add-i Inv-loop μ-loop
 add-i c = let s = (c .before .before .before .before .before .before .before .before .before .before .before .before .before .before .before .before .before) in omega (arith, s .pre .1)
@@ -74,11 +77,9 @@ loop-again c =
     let s = (c .before .before .before .before .before .before .before .before .before .before .before .before .before .before .before .before .before) in
     let l = (c .before .before .before .before .before .before .before .before .before .before .before .before) in
     let v = l .loop .inv in
-    let f = c .before .before .before .before .before .before .five in
-    let e : l .loop .i ≡ s .args .from + l .loop .i - s .args .from = omega arith in
-    let w = c .before .before .before .before .before .before .before .before .before .before .rgba-at .ensures ∙ ap (rgbaAt (s .args .buf .now) 4) e in (
+    let f = c .before .before .before .before .before .before .five in (
       omega (arith, c .before .before .before .before .before .before .before .before .before .before .before .loop-test),
-      pixels-more (s .args .k) (buffered s) (s .args .from) (l .loop .i) _ (memory s) (found l) _ (v .1) w (f .ensures),
+      pixels-more (s .args .k) (buffered s) (s .args .from) (l .loop .i) _ (memory s) (found l) _ (v .1) (words (c .before .before .before .before .before .before .before .before .before .before)) (f .ensures),
       f .kept .0 ∙ v .2,
       f .kept .1 .0 ∙ v .3,
       f .kept .1 .1 .0 ∙ v .4,

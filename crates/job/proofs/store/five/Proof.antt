@@ -1,5 +1,6 @@
 -- `job::store::five` meets its contract: after each write, memory is what so many of the five leave. Assumes nothing.
 use Rattle.job.specs.Memory.{Mem, memOf}
+use Rattle.job.proofs.Uses.{ahead-first}
 use Rattle.job.proofs.Writes.{Begun, begun-due, begun-more}
 use borrow.Author.Needs.{needs}
 use native.Mathlib.Omega.{arith}
@@ -20,13 +21,13 @@ end : (c : tie.After-step2) → let s = c .before .before .before .before .befor
 end c = begun-more (omega arith) (alpha (c .before .before .before .before .before .before .before .before .before .before)) _ (c .step2 .ensures) (c .step2 .kept .0) (c .step2 .kept .1 .0) (c .step2 .kept .1 .1 .0)
 
 three-requires : tie.Need-three-requires
-three-requires c κs = search needs
+three-requires c κs = let s = (c .before .before .before .before .before .before) in (s .pre .0, ahead-first (s .pre .1) 3 (omega arith))
 
 step-requires : tie.Need-step-requires
-step-requires c κs = begun-due (omega arith) (colours (c .before .before .before .before .before .before .before .before .before)) ((c .before .before .before .before .before .before .before .before .before .before .before .before .before .before .before .before) .pre)
+step-requires c κs = let s = c .before .before .before .before .before .before .before .before .before .before .before .before .before .before .before .before in begun-due (omega arith) (colours (c .before .before .before .before .before .before .before .before .before)) (omega arith) (s .pre .0) (s .pre .1)
 
 step-requires-2 : tie.Need-step-requires-2
-step-requires-2 c κs = begun-due (omega arith) (alpha (c .before .before .before .before .before .before .before .before .before)) ((c .before .before .before .before .before .before .before .before .before .before .before .before .before .before .before .before .before .before .before .before .before .before .before .before .before .before) .pre)
+step-requires-2 c κs = let s = c .before .before .before .before .before .before .before .before .before .before .before .before .before .before .before .before .before .before .before .before .before .before .before .before .before .before in begun-due (omega arith) (alpha (c .before .before .before .before .before .before .before .before .before)) (omega arith) (s .pre .0) (s .pre .1)
 
 same-length : tie.Need-same-length
 same-length c = search needs

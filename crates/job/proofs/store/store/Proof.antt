@@ -12,7 +12,7 @@ memory s = memOf (s .args .work0 .now) (s .args .work1 .now) (s .args .mark .now
 
 -- what the write names is there, and is what is changed
 named : (s : tie.Start) (w : Write) → s .args .w ≡ w → InRange (memory s) w
-named s w e = subst (InRange (memory s)) e (s .pre)
+named s w e = subst (InRange (memory s)) e (s .pre .0)
 
 made : (s : tie.Start) (w : Write) → s .args .w ≡ w → put w (memory s) ≡ put (s .args .w) (memory s)
 made s w e = sym (ap (λ (x : Write). put x (memory s)) e)

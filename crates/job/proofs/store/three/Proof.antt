@@ -20,13 +20,13 @@ end : (c : tie.After-step3) → let s = c .before .before .before .before .befor
 end c = begun-more (omega arith) (two (c .before .before .before .before .before .before .before .before .before .before)) _ (c .step3 .ensures) (c .step3 .kept .0) (c .step3 .kept .1 .0) (c .step3 .kept .1 .1 .0)
 
 step-requires : tie.Need-step-requires
-step-requires c κs = let s = (c .before .before .before .before .before .before) in begun-due (omega arith) (begun-none (s .args .k) (s .args .j) (s .args .w) (memory s)) (s .pre)
+step-requires c κs = let s = (c .before .before .before .before .before .before) in begun-due (omega arith) (begun-none (s .args .k) (s .args .j) (s .args .w) (memory s)) (omega arith) (s .pre .0) (s .pre .1)
 
 step-requires-2 : tie.Need-step-requires-2
-step-requires-2 c κs = begun-due (omega arith) (one (c .before .before .before .before .before .before .before .before .before)) ((c .before .before .before .before .before .before .before .before .before .before .before .before .before .before .before .before) .pre)
+step-requires-2 c κs = let s = c .before .before .before .before .before .before .before .before .before .before .before .before .before .before .before .before in begun-due (omega arith) (one (c .before .before .before .before .before .before .before .before .before)) (omega arith) (s .pre .0) (s .pre .1)
 
 step-requires-3 : tie.Need-step-requires-3
-step-requires-3 c κs = begun-due (omega arith) (two (c .before .before .before .before .before .before .before .before .before)) ((c .before .before .before .before .before .before .before .before .before .before .before .before .before .before .before .before .before .before .before .before .before .before .before .before .before .before) .pre)
+step-requires-3 c κs = let s = c .before .before .before .before .before .before .before .before .before .before .before .before .before .before .before .before .before .before .before .before .before .before .before .before .before .before in begun-due (omega arith) (two (c .before .before .before .before .before .before .before .before .before)) (omega arith) (s .pre .0) (s .pre .1)
 
 same-length : tie.Need-same-length
 same-length c = search needs

@@ -42,7 +42,7 @@ phase-requires : tie.Need-phase-requires
 phase-requires c κs =
     let s = (c .before .before .before .before .before .before .before .before .before .before .before .before .before) in
     phase-asks (job s) (s .args .k) (s .args .from) (s .args .count) (s .args .rest) (memory s) (c .before .before .before .before .before .at .result) (c .before .before .before .before .plan .result) _
-    (s .pre) (good (c .before .before .before .before .before)) (c .before .before .before .before .plan .ensures) (c .before .before .before .source-of .ensures)
+    (s .pre) (layer (c .before .before .before .before .before)) (c .before .before .before .before .plan .ensures) (c .before .before .before .source-of .ensures) (good (c .before .before .before .before .before))
 
 same-length : tie.Need-same-length
 same-length c = search needs
@@ -56,8 +56,8 @@ same-length-3 c = search needs
 returns : tie.Need-returns
 returns c =
     let s = (c .before .before .before .before .before .before .before .before .before .before .before .before .before .before .before .before .before .before .before .before) in
-    stretch-done (job s) (s .args .k) (s .args .from) (s .args .count) (s .args .rest) (memory s) _ (c .before .before .before .before .before .before .before .before .before .before .before .before .at .result) (c .before .before .before .before .before .before .before .before .before .before .before .plan .result) _
-    (s .pre) (layer (c .before .before .before .before .before .before .before .before .before .before .before .before)) (c .before .before .before .before .before .before .before .before .before .before .before .plan .ensures) (c .before .before .before .before .before .before .before .before .before .before .source-of .ensures) (c .before .before .before .before .before .before .phase .ensures)
+    stretch-done (job s) (s .args .k) (s .args .from) (s .args .count) (s .args .rest) (memory s) (c .before .before .before .before .before .before .before .before .before .before .before .before .at .result) (c .before .before .before .before .before .before .before .before .before .before .before .plan .result) _
+    (s .pre) (layer (c .before .before .before .before .before .before .before .before .before .before .before .before)) (c .before .before .before .before .before .before .before .before .before .before .before .plan .ensures) (c .before .before .before .before .before .before .before .before .before .before .source-of .ensures) _ (c .before .before .before .before .before .before .phase .ensures)
 
 pub stretch-spec : {M : Type 1} → statement M
 stretch-spec =

@@ -1,32 +1,26 @@
 -- `job::stretch::writes` meets its contract.
--- The invariant: memory is what a call allowed `done` writes leaves (proofs/Uses), a whole number of pixels while writes are left, and the lists have
--- kept their lengths. The measure is what is left of the writes. Assumes nothing.
+-- The invariant: `done` writes have been made, a whole number of pixels while writes are left; after them and after each that is still to come memory
+-- is what a call allowed so many leaves (`Ahead`); and the lists have kept their lengths. The measure is what is left of the writes. Assumes nothing.
 use Prim.Native.Nat.{ℕ, _+_, _-_, _*_, _/_, _%_, _<_, _≤_}
 use mathlib.Core.Path.{_≡_, refl, ap, _∙_}
 use native.Mathlib.Nat.{mod-lt}
 use lib.ListN.{length}
 use Rattle.job.specs.Memory.{Mem, memOf, positionOf}
 use Rattle.job.specs.Call.{Setting, setting, runOf}
+use Rattle.job.specs.Uses.{Ahead}
+use Rattle.job.proofs.Uses.{ahead-part}
 use Rattle.job.proofs.Runs.{run-none}
-use Rattle.job.proofs.Dues.{area-small, sized-still, Turn, due-left, due-some, due-stretch, due-fives, due-run, due-position}
+use Rattle.job.proofs.Dues.{area-small, sized-still, Turn, due-left, due-some, due-stretch, due-fives, due-run, due-ahead, due-position}
 use native.Mathlib.Omega.{arith}
 use Rattle.job.proofs.stretch.writes.Statement.{statement}
 use Rattle.job.proofs.stretch.writes.Tie as tie
-
--- The invariant: memory is what a call allowed `done` writes leaves (proofs/Uses), a whole number of pixels while writes are left, and the lists have
--- kept their lengths. The measure is what is left of the writes. Assumes nothing.
-
--- The invariant: memory is what a call allowed `done` writes leaves (proofs/Uses), a whole number of pixels while writes are left, and the lists have
--- kept their lengths. The measure is what is left of the writes. Assumes nothing.
-
--- The invariant: memory is what a call allowed `done` writes leaves (proofs/Uses), a whole number of pixels while writes are left, and the lists have
--- kept their lengths. The measure is what is left of the writes. Assumes nothing.
 
 abbrev Inv-loop : tie.InvT-loop
 Inv-loop w h channels dst table args samples start made work0₀ work1₀ mark₀ n done₀ work0 work1 mark done =
     (done ≤ made)
     × (done < made → done % 5 ≡ 0)
     × (memOf work0 work1 mark ≡ runOf (setting w h channels dst table args samples) (5 * start) done (memOf work0₀ work1₀ mark₀))
+    × Ahead (made - done) (λ t. runOf (setting w h channels dst table args samples) (5 * start) (done + t) (memOf work0₀ work1₀ mark₀))
     × (positionOf (memOf work0 work1 mark) ≡ start + done / 5)
     × (length work0 ≡ length work0₀)
     × (length work1 ≡ length work1₀)
@@ -54,10 +48,12 @@ turn c =
     let t : l .loop .done < s .args .made = omega (arith, c .before .loop-test) in
     record {
       due = s .pre;
-      sized = sized-still (job s) (memory s) (found l) (s .pre .sized) (v .4) (v .5) (v .6);
+      sized = sized-still (job s) (memory s) (found l) (s .pre .sized) (v .5) (v .6) (v .7);
       left = t;
       fives = v .1 t;
-      at = v .3;
+      run = v .2;
+      ahead = v .3;
+      at = v .4;
       taken = c .least .ensures;
     }
 
@@ -65,7 +61,7 @@ mul-n : tie.Need-mul-n Inv-loop μ-loop
 mul-n c = let s = (c .before .before .before .before .before .before) in omega (arith, area-small (job s) (memory s) (s .pre .sized))
 
 loop-holds : tie.Need-loop-holds Inv-loop μ-loop
-loop-holds c = let s = (c .before .before .before .before .before .before) in (omega arith, λ t. omega arith, run-none (job s) (5 * s .args .start) (memory s), omega (arith, s .pre .position), refl, refl, refl)
+loop-holds c = let s = (c .before .before .before .before .before .before) in (omega arith, λ t. omega arith, run-none (job s) (5 * s .args .start) (memory s), ahead-part (s .pre .ahead) 0 _ (omega arith) _ (λ t l. refl), omega (arith, s .pre .position), refl, refl, refl)
 
 add-at : tie.Need-add-at Inv-loop μ-loop
 add-at c = omega (arith, (c .before .before .before .before .before .before .before .before) .pre .bound, c .loop-test)
@@ -108,21 +104,22 @@ loop-again c =
     let m′ = memOf (f .last .1 .1 .1 .1 .1 .1 .1 .1 .1 .1 .1 .0) (f .last .1 .1 .1 .1 .1 .1 .1 .1 .1 .1 .1 .1 .0) (f .last .1 .1 .1 .1 .1 .1 .1 .1 .1 .1 .1 .1 .1 .0) in (
       omega (arith, due-left u, c .before .before .before .before .before .before .before .before .before .before .before .loop-test),
       due-fives u,
-      due-run u m′ (v .2) (f .ensures .0),
+      due-run u m′ (f .ensures .0),
+      due-ahead u,
       due-position u m′ (f .ensures .1),
-      f .kept .1 .1 .1 .1 .1 .1 .1 .1 .1 .1 .1 .0 ∙ v .4,
-      f .kept .1 .1 .1 .1 .1 .1 .1 .1 .1 .1 .1 .1 .0 ∙ v .5,
-      f .kept .1 .1 .1 .1 .1 .1 .1 .1 .1 .1 .1 .1 .1 .0 ∙ v .6,
+      f .kept .1 .1 .1 .1 .1 .1 .1 .1 .1 .1 .1 .0 ∙ v .5,
+      f .kept .1 .1 .1 .1 .1 .1 .1 .1 .1 .1 .1 .1 .0 ∙ v .6,
+      f .kept .1 .1 .1 .1 .1 .1 .1 .1 .1 .1 .1 .1 .1 .0 ∙ v .7,
     )
 
 same-length : tie.Need-same-length Inv-loop μ-loop
-same-length c = c .before .loop .inv .4
+same-length c = c .before .loop .inv .5
 
 same-length-2 : tie.Need-same-length-2 Inv-loop μ-loop
-same-length-2 c = c .before .loop .inv .5
+same-length-2 c = c .before .loop .inv .6
 
 same-length-3 : tie.Need-same-length-3 Inv-loop μ-loop
-same-length-3 c = c .before .loop .inv .6
+same-length-3 c = c .before .loop .inv .7
 
 returns : tie.Need-returns Inv-loop μ-loop
 returns c =
