@@ -1,7 +1,6 @@
--- A good layer on a destination within the slack: its plan is ready, and its source lies in the samples. Assumes nothing.
+-- A layer on a destination within the slack: its plan is ready, and its source is a part of the samples. Assumes nothing.
 use mathlib.Core.Path.{_≡_, refl}
 use mathlib.Core.List.{List}
-use mathlib.Core.Logic.{⊎-elim}
 use Prim.Native.Nat.{ℕ, _+_, _-_, _*_, _≤_}
 use native.Mathlib.Nat.{mul-le-mul}
 use native.Mathlib.Omega.{arith}
@@ -10,14 +9,9 @@ use lib.Seq.{length-take-le}
 use Rattle.places.specs.Bounds.{slack, Measured}
 use Rattle.places.proofs.Anchors.{corner-x, corner-y}
 use Rattle.layers.specs.declared.Layer.{Layer}
-use Rattle.layers.proofs.Accepted.{GoodLayer}
-use Rattle.layers.proofs.Ranges.{Channels, channels-most}
 use Rattle.compose.specs.Compose.{planOf}
 use Rattle.compose.specs.declared.Plan.{Plan}
 use Rattle.compose.specs.Ready.{Ready, Run}
-
-pub channels-least : (n : ℕ) → Channels n → 1 ≤ n
-channels-least n h = ⊎-elim (λ e. omega arith) (λ t. ⊎-elim (λ e. omega arith) (λ e. omega arith) t) h
 
 -- a product of two sides
 pub plane : (w h : ℕ) → w ≤ slack → h ≤ slack → w * h ≤ slack * slack
@@ -29,20 +23,23 @@ part-length samples first area h =
     let e : first + area - first ≡ area = omega arith in
     rw e (length-take-le area (drop first samples) (simp length-drop (omega arith)))
 
-module _ (l : Layer) (dw dh samples : ℕ) (good : GoodLayer samples l) (m : Measured dw dh (l .source .width) (l .source .height) (l .right) (l .down)) where
-  pub ready : (p : Plan) (source : ℕ) → p ≡ planOf l dw dh → source ≡ l .source .width * l .source .height * l .source .channels → Ready p source
+module _ (l : Layer) (dw dh : ℕ) (m : Measured dw dh (l .source .width) (l .source .height) (l .right) (l .down)) where
+  ready : (p : Plan) → p ≡ planOf l dw dh → 1 ≤ l .source .channels → l .source .channels ≤ 4 → Ready p (l .source .width * l .source .height * l .source .channels)
   unfolding planOf
-  ready p source e f =
-      rw (e, f)
+  ready p e least most =
+      rw e
       record {
         width = m .width;
         height = m .height;
         corner-x = corner-x (l .gravity) dw dh (l .source .width) (l .source .height) (l .right) (l .down) m;
         corner-y = corner-y (l .gravity) dw dh (l .source .width) (l .source .height) (l .right) (l .down) m;
-        some = channels-least (l .source .channels) (good .channels);
-        most = channels-most (l .source .channels) (good .channels);
+        some = least;
+        most = most;
         whole = refl;
       }
+
+  pub planned : (p : Plan) → 1 ≤ l .source .channels → l .source .channels ≤ 4 → p ≡ planOf l dw dh → (p ≡ planOf l dw dh) × Ready p (l .source .width * l .source .height * l .source .channels)
+  planned p least most e = (e, ready p e least most)
 
   pub runs : (p : Plan) (picture channels : ℕ) → p ≡ planOf l dw dh → 1 ≤ channels → channels ≤ 4 → picture ≡ dw * dh * channels → Run p picture channels 0 (dw * dh)
   unfolding planOf

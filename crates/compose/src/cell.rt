@@ -25,8 +25,8 @@ use places::source_index;
 
 // The layer's plan on a destination of dw by dh pixels.
 pub fn plan(l: Layer, dw: usize, dh: usize) -> Plan
-    requires { ⌜ Measured dw dh (l .source .width) (l .source .height) (l .right) (l .down) ⌝ }
-    ensures { λ r. ⌜ r ≡ planOf l dw dh ⌝ }
+    requires { ⌜ (Measured dw dh (l .source .width) (l .source .height) (l .right) (l .down)) × (1 ≤ l .source .channels) × (l .source .channels ≤ 4) ⌝ }
+    ensures { λ r. ⌜ (r ≡ planOf l dw dh) × (Ready r (l .source .width * l .source .height * l .source .channels)) ⌝ }
 {
     let op = l.op;
     let source = l.source;

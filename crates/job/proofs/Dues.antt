@@ -1,5 +1,5 @@
 -- The writes of a call, stretch by stretch: what each stretch asks, and what it adds. Assumes nothing.
-use mathlib.Core.Path.{_≡_, refl, sym, ap, _∙_, subst}
+use mathlib.Core.Path.{_≡_, refl, sym, ap, _∙_, subst, subst⁻¹}
 use mathlib.Core.List.{List}
 use mathlib.Core.Logic.{⊎-elim}
 use Prim.Native.Nat.{ℕ, _+_, _-_, _*_, _/_, _%_, _<_, _≤_, min}
@@ -15,7 +15,7 @@ use Rattle.layers.proofs.Accepted.{GoodLayer}
 use Rattle.pictures.specs.declared.Words.{Words}
 use Rattle.compose.specs.declared.Plan.{Plan}
 use Rattle.compose.specs.Compose.{planOf, sourceOf}
-use Rattle.compose.proofs.Placed.{ready}
+use Rattle.compose.specs.Ready.{Ready}
 use Rattle.job.specs.Memory.{Mem, workOf, positionOf}
 use Rattle.job.specs.Call.{Setting, area, pixelOf, runOf}
 use Rattle.job.specs.Steps.{stretchOf, phasePixel, Whole, Raised, Decodable, Sized, Stretch, Due, StretchAhead}
@@ -44,12 +44,12 @@ placed s m l z g = record {
   offset-down = g .down;
 }
 
-pub plan-whole : (s : Setting) (m : Mem) (l : Layer) (p : Plan) (source : List ℕ) → Sized s m → GoodLayer (length (s .samples)) l → p ≡ planOf l (s .width) (s .height) → source ≡ sourceOf (s .samples) (l .source)
+pub plan-whole : (s : Setting) (m : Mem) (l : Layer) (p : Plan) (source : List ℕ) → Sized s m → GoodLayer (length (s .samples)) l → p ≡ planOf l (s .width) (s .height) → Ready p (l .source .width * l .source .height * l .source .channels) → source ≡ sourceOf (s .samples) (l .source)
     → Whole p (s .channels) (length (s .dst)) (length source) (length (m .work0)) (length (m .work1))
 unfolding planOf
-plan-whole s m l p source z g ep es =
+plan-whole s m l p source z g ep er es =
     let n : length source ≡ l .source .width * l .source .height * l .source .channels = ap length es ∙ source-length (s .samples) (l .source) (g .held) in
-    let r = ready l (s .width) (s .height) (length (s .samples)) g (placed s m l z g) p (length source) ep n in
+    let r : Ready p (length source) = subst⁻¹ (Ready p) n er in
     rw ep
     record {
       ready = rw ep at r;
@@ -90,7 +90,7 @@ module _ (s : Setting) (k from count rest : ℕ) (m : Mem) (l : Layer) (p : Plan
       ∙ ap (λ (x : ℕ). runOf s (5 * positionOf m) x m) (omega arith))
 
   -- what its phase asks
-  pub phase-asks : GoodLayer (length (s .samples)) l
+  pub phase-asks : GoodLayer (length (s .samples)) l → Ready p (l .source .width * l .source .height * l .source .channels)
       → Whole p (s .channels) (length (s .dst)) (length source) (length (m .work0)) (length (m .work1))
       × (from + count ≤ p .dw * p .dh)
       × (rest < 5)
@@ -98,7 +98,7 @@ module _ (s : Setting) (k from count rest : ℕ) (m : Mem) (l : Layer) (p : Plan
       × Raised count m
       × StretchAhead k f from (5 * count + rest) m
   unfolding planOf
-  phase-asks g = (plan-whole s m l p source (h .sized) g ep es, rw ep (h .inside), h .few, rw ep (h .room), record { marked = h .sized .marked; bound = h .bound }, ahead)
+  phase-asks g er = (plan-whole s m l p source (h .sized) g ep er es, rw ep (h .inside), h .few, rw ep (h .room), record { marked = h .sized .marked; bound = h .bound }, ahead)
 
   -- what it leaves
   pub stretch-done : (m′ : Mem) → m′ ≡ stretchOf k f from count rest m → (m′ ≡ runOf s (5 * positionOf m) (5 * count + rest) m) × (positionOf m′ ≡ positionOf m + count)

@@ -93,6 +93,11 @@ channels-most n (inl e) = omega arith
 channels-most n (inr (inl e)) = omega arith
 channels-most n (inr (inr e)) = omega arith
 
+pub channels-least : (n : ℕ) → Channels n → 1 ≤ n
+channels-least n (inl e) = omega arith
+channels-least n (inr (inl e)) = omega arith
+channels-least n (inr (inr e)) = omega arith
+
 -- a picture's shape in its range
 pub record Shaped (width height channels : ℤ) : Type 0 where
   pub wide : Ranged 0 slack width

@@ -2,6 +2,7 @@
 use native.Mathlib.Omega.{arith}
 use Rattle.places.proofs.Signed.{back}
 use Rattle.compose.specs.Compose.{planOf}
+use Rattle.compose.proofs.Placed.{planned}
 use borrow.Author.Needs.{needs}
 use Rattle.compose.proofs.cell.plan.Statement.{statement}
 use Rattle.compose.proofs.cell.plan.Tie as tie
@@ -22,13 +23,15 @@ returns : tie.Need-returns
 unfolding planOf
 returns c =
     let s = c .before .before .before .before .before .before .before .before in
+    planned (s .args .l) (s .args .dw) (s .args .dh) (s .pre .0) _ (s .pre .1) (s .pre .2) (
     rw (
       c .before .placement .ensures,
       c .before .before .before .before .number .ensures,
       c .before .before .before .before .before .is-map .ensures,
       c .before .before .before .before .before .before .params .ensures,
-      back {z = s .args .l .right} (omega (arith, s .pre .offset-right)),
-      back {z = s .args .l .down} (omega (arith, s .pre .offset-down)),
+      back {z = s .args .l .right} (omega (arith, s .pre .0 .offset-right)),
+      back {z = s .args .l .down} (omega (arith, s .pre .0 .offset-down)),
+    )
     )
 
 pub plan-spec : {M : Type 1} → statement M

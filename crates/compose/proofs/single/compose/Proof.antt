@@ -13,7 +13,8 @@ use Rattle.layers.specs.Inputs.{Inputs, inputsOf, jobFault}
 use Rattle.layers.proofs.Accepted.{Accepted, accepted, measured}
 use Rattle.layers.proofs.Ranges.{channels-most}
 use Rattle.compose.proofs.Outcomes.{refused, unfit, composed}
-use Rattle.compose.proofs.Placed.{plane, channels-least}
+use Rattle.compose.proofs.Placed.{plane}
+use Rattle.layers.proofs.Ranges.{channels-least}
 use Rattle.compose.proofs.single.compose.Statement.{statement}
 use Rattle.compose.proofs.single.compose.Tie as tie
 

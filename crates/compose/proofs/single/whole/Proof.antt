@@ -1,14 +1,16 @@
 -- `compose::single::whole` meets its contract: the part that is lent is the source, and the plan is the layer's. Assumes nothing.
-use mathlib.Core.Path.{_≡_, _∙_}
+use mathlib.Core.Path.{_≡_, _∙_, subst⁻¹}
 use Prim.Native.Nat.{_+_, _-_, _*_}
 use native.Mathlib.Omega.{arith}
-use Rattle.compose.proofs.Placed.{plane, part-length, ready, runs}
+use Rattle.compose.specs.Ready.{Ready}
+use Rattle.compose.proofs.Placed.{plane, part-length, runs}
+use Rattle.layers.proofs.Ranges.{channels-least, channels-most}
 use borrow.Author.Needs.{needs}
 use Rattle.compose.proofs.single.whole.Statement.{statement}
 use Rattle.compose.proofs.single.whole.Tie as tie
 
 plan-requires : tie.Need-plan-requires
-plan-requires c κs = search needs
+plan-requires c κs = let s = c .before .before .before in let g = s .pre .0 in (s .pre .1, channels-least _ (g .channels), channels-most _ (g .channels))
 
 mul-end : tie.Need-mul-end
 mul-end c =
@@ -43,8 +45,8 @@ chunks-requires c κs =
     let p = c .before .before .before .before .before in
     let s = p .before .before .before .before in
     let g = s .pre .0 in (
-      ready (s .args .l) (s .args .dw) (s .args .dh) _ g (s .pre .1) (p .plan .result) _ (p .plan .ensures) (part-length (s .args .samples .now) _ _ (g .held)),
-      runs (s .args .l) (s .args .dw) (s .args .dh) _ g (s .pre .1) (p .plan .result) _ _ (p .plan .ensures) (s .pre .2) (s .pre .3) (s .pre .4),
+      subst⁻¹ (Ready (p .plan .result)) (part-length (s .args .samples .now) _ _ (g .held)) (p .plan .ensures .1),
+      runs (s .args .l) (s .args .dw) (s .args .dh) (s .pre .1) (p .plan .result) _ _ (p .plan .ensures .0) (s .pre .2) (s .pre .3) (s .pre .4),
       s .pre .5,
     )
 
@@ -56,7 +58,7 @@ returns c =
     let k = c .before .before in
     let s = k .before .before .before .before .before .before .before .before .before .before in
     let e : s .args .l .source .first + s .args .l .source .width * s .args .l .source .height * s .args .l .source .channels - s .args .l .source .first ≡ s .args .l .source .width * s .args .l .source .height * s .args .l .source .channels = omega arith in
-    k .chunks .ensures ∙ rw (e, k .before .before .before .before .before .before .plan .ensures)
+    k .chunks .ensures ∙ rw (e, k .before .before .before .before .before .before .plan .ensures .0)
 
 pub whole-spec : {M : Type 1} → statement M
 whole-spec =

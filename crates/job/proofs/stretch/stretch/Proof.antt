@@ -4,7 +4,7 @@ use Prim.Native.Nat.{_-_}
 use lib.ListN.{length}
 use Rattle.layers.specs.Layers.{layerAt}
 use Rattle.layers.proofs.Accepted.{GoodLayer}
-use Rattle.layers.proofs.Ranges.{channels-most}
+use Rattle.layers.proofs.Ranges.{channels-least, channels-most}
 use Rattle.job.specs.Memory.{Mem, memOf}
 use Rattle.job.specs.Call.{Setting, setting}
 use Rattle.job.proofs.Dues.{placed, phase-asks, stretch-done}
@@ -33,7 +33,7 @@ at-requires : tie.Need-at-requires
 at-requires c κs = let s = (c .before .before .before .before .before .before .before) in rw (c .layer-of .ensures) (s .pre .decodable .row, s .pre .decodable .words)
 
 plan-requires : tie.Need-plan-requires
-plan-requires c κs = let s = (c .before .before .before .before .before .before .before .before) in placed (job s) (memory s) _ (s .pre .sized) (good c)
+plan-requires c κs = let s = (c .before .before .before .before .before .before .before .before) in let g = good c in (placed (job s) (memory s) _ (s .pre .sized) g, channels-least _ (g .channels), channels-most _ (g .channels))
 
 source-of-requires : tie.Need-source-of-requires
 source-of-requires c κs = let g = good (c .before) in (g .held, g .width, g .height, channels-most _ (g .channels))
@@ -42,7 +42,7 @@ phase-requires : tie.Need-phase-requires
 phase-requires c κs =
     let s = (c .before .before .before .before .before .before .before .before .before .before .before .before .before) in
     phase-asks (job s) (s .args .k) (s .args .from) (s .args .count) (s .args .rest) (memory s) (c .before .before .before .before .before .at .result) (c .before .before .before .before .plan .result) _
-    (s .pre) (layer (c .before .before .before .before .before)) (c .before .before .before .before .plan .ensures) (c .before .before .before .source-of .ensures) (good (c .before .before .before .before .before))
+    (s .pre) (layer (c .before .before .before .before .before)) (c .before .before .before .before .plan .ensures .0) (c .before .before .before .source-of .ensures) (good (c .before .before .before .before .before)) (c .before .before .before .before .plan .ensures .1)
 
 same-length : tie.Need-same-length
 same-length c = search needs
@@ -57,7 +57,7 @@ returns : tie.Need-returns
 returns c =
     let s = (c .before .before .before .before .before .before .before .before .before .before .before .before .before .before .before .before .before .before .before .before) in
     stretch-done (job s) (s .args .k) (s .args .from) (s .args .count) (s .args .rest) (memory s) (c .before .before .before .before .before .before .before .before .before .before .before .before .at .result) (c .before .before .before .before .before .before .before .before .before .before .before .plan .result) _
-    (s .pre) (layer (c .before .before .before .before .before .before .before .before .before .before .before .before)) (c .before .before .before .before .before .before .before .before .before .before .before .plan .ensures) (c .before .before .before .before .before .before .before .before .before .before .source-of .ensures) _ (c .before .before .before .before .before .before .phase .ensures)
+    (s .pre) (layer (c .before .before .before .before .before .before .before .before .before .before .before .before)) (c .before .before .before .before .before .before .before .before .before .before .before .plan .ensures .0) (c .before .before .before .before .before .before .before .before .before .before .source-of .ensures) _ (c .before .before .before .before .before .before .phase .ensures)
 
 pub stretch-spec : {M : Type 1} → statement M
 stretch-spec =
