@@ -1,8 +1,8 @@
 -- Where pixel j of a picture of w by h pixels lies, row by row. Assumes nothing.
-use mathlib.Core.Path.{_≡_, sym}
+use mathlib.Core.Path.{_≡_, sym, ap, _∙_}
 use mathlib.Core.Bool.{Bool}
 use Prim.Native.Nat.{ℕ, zero, suc, _+_, _*_, _/_, _%_, _<_, _≤_}
-use native.Mathlib.Nat.{zero-mul, mul-zero, mod-lt, div-lt-iff-lt-mul, mul-comm, mul-le-mul, mul-le-mul-left}
+use native.Mathlib.Nat.{zero-mul, mul-zero, mod-lt, mod-self, div-self, mod-eq-of-lt, div-eq-of-lt, add-zero, div-add-mod', mul-add-div-right, mul-add-mod-self-right, div-lt-iff-lt-mul, mul-comm, mul-le-mul, mul-le-mul-left}
 use native.Mathlib.Omega.{arith}
 use Rattle.places.specs.Bounds.{slack, Reached, Under}
 use Rattle.places.specs.Spots.{sourceIndex}
@@ -28,6 +28,30 @@ column-below w h j a = mod-lt j (some-width w h j a)
 
 pub row-below : (w h j : ℕ) → j < w * h → j / w < h
 row-below w h j a = div-lt-iff-lt-mul (some-width w h j a) .1 (rw (mul-comm h w) a)
+
+-- the column and the row after the last of a row, and after another
+pub column-wraps : (x w : ℕ) → x + 1 ≡ w → 0 ≡ (x + 1) % w
+column-wraps x w e = rw e (sym (mod-self w))
+
+pub row-wraps : (x y w : ℕ) → x + 1 ≡ w → y + 1 ≡ y + (x + 1) / w
+row-wraps x y w e = let d : w / w ≡ 1 = div-self (omega arith) in rw (e, d)
+
+pub column-on : (x w : ℕ) → x + 1 < w → x + 1 ≡ (x + 1) % w
+column-on x w h = sym (mod-eq-of-lt h)
+
+pub row-on : (x y w : ℕ) → x + 1 < w → y ≡ y + (x + 1) / w
+row-on x y w h = rw (div-eq-of-lt h, add-zero)
+
+-- the next pixel's, by those of pixel j
+module _ (w j : ℕ) (some : 1 ≤ w) where
+  on : j + 1 ≡ j / w * w + (j % w + 1)
+  on = omega (arith, div-add-mod' j w)
+
+  pub column-next : (j % w + 1) % w ≡ (j + 1) % w
+  column-next = sym (ap (λ (z : ℕ). z % w) on ∙ mul-add-mod-self-right (j / w) w (j % w + 1))
+
+  pub row-next : j / w + (j % w + 1) / w ≡ (j + 1) / w
+  row-next = sym (ap (λ (z : ℕ). z / w) on ∙ mul-add-div-right some (j / w) (j % w + 1))
 
 -- ---- what a plan that is ready has in hand at pixel j
 

@@ -1,6 +1,6 @@
 // One pixel of the result. Everything that a layer decides once stands in its plan.
 ghost use mathlib.Core.Path.{_≡_};
-ghost use Prim.Native.Nat.{_+_, _*_, _<_, _≤_};
+ghost use Prim.Native.Nat.{_+_, _*_, _/_, _%_, _<_, _≤_};
 ghost use lib.ListN.{length};
 ghost use lib.Ieee.{Float};
 ghost use Rattle.pictures.specs.Widen.{rgbaAt, valuesOf};
@@ -142,7 +142,7 @@ fn writing(p: Plan, spot: Spot) -> bool
     }
 }
 
-// Pixel j of the result, from its own words beneath and, for a map, the whole picture beneath.
+// Pixel j of the result, in column x and row y, from its own words beneath and, for a map, the whole picture beneath.
 pub fn composed(
     p: Plan,
     source: &[u32],
@@ -150,12 +150,13 @@ pub fn composed(
     channels: usize,
     own: Words,
     j: usize,
+    x: usize,
+    y: usize,
 ) -> Words
-    requires { ⌜ (Ready p (length (now source))) × (Beneath p (length (now picture)) channels j) ⌝ }
+    requires { ⌜ (Ready p (length (now source))) × (Beneath p (length (now picture)) channels j) × (x ≡ j % p .dw) × (y ≡ j / p .dw) ⌝ }
     ensures { λ r. ⌜ r ≡ composedBy p (now (source .entry)) (λ i. valuesOf (rgbaAt (now (picture .entry)) channels i)) own j ⌝ }
 {
-    let dw = p.dw;
-    let spot = source_index(p.tile, p.width, p.height, p.corner, j % dw, j / dw);
+    let spot = source_index(p.tile, p.width, p.height, p.corner, x, y);
     if writing(p, spot) {
         let s = source_pixel(p, source, spot);
         let v = result(p, picture, channels, s, values(own), j);

@@ -1,7 +1,8 @@
 // Runs of pixels: the one loop of composition. The single composition and the job both come here, so that the operators' match has one call site.
 ghost use mathlib.Core.Path.{_≡_};
-ghost use Prim.Native.Nat.{_+_, _*_, _<_, _≤_};
+ghost use Prim.Native.Nat.{_+_, _*_, _/_, _%_, _<_, _≤_};
 ghost use lib.ListN.{length};
+ghost use Rattle.places.specs.Bounds.{slack};
 ghost use Rattle.pictures.specs.Widen.{rgbaAt, valuesOf};
 ghost use Rattle.pictures.specs.FlatWords.{filled};
 ghost use Rattle.compose.specs.Compose.{composedBy};
@@ -10,6 +11,27 @@ use crate::Plan;
 use crate::cell::composed;
 use pictures::flat::put;
 use pictures::widen::rgba_at;
+
+// The column and the row of the next pixel, row by row, without a division.
+fn column_after(x: usize, dw: usize) -> usize
+    requires { ⌜ x < dw ⌝ }
+    ensures { λ r. ⌜ r ≡ (x + 1) % dw ⌝ }
+{
+    if x + 1 == dw {
+        return 0;
+    }
+    x + 1
+}
+
+fn row_after(x: usize, y: usize, dw: usize) -> usize
+    requires { ⌜ (x < dw) × (y ≤ slack) ⌝ }
+    ensures { λ r. ⌜ r ≡ y + (x + 1) / dw ⌝ }
+{
+    if x + 1 == dw {
+        return y + 1;
+    }
+    y
+}
 
 // Pixels from .. from + count of the result, at the front of out. Their own pixels beneath are the first of `beneath`; a map reads the whole picture.
 pub fn run(
@@ -25,14 +47,22 @@ pub fn run(
     requires { ⌜ (Ready p (length (now source))) × (Run p (length (now picture)) channels from count) × (4 * count ≤ length (now beneath)) × (4 * count ≤ length (now out)) ⌝ }
     ensures { λ _. ⌜ now (out .exit) ≡ filled (λ i. composedBy p (now (source .entry)) (λ k. valuesOf (rgbaAt (now (picture .entry)) channels k)) (rgbaAt (now (beneath .entry)) 4 i) (from + i)) count (now (out .entry)) ⌝ }
 {
+    if count == 0 {
+        return;
+    }
+    let dw = p.dw;
+    let mut x = from % dw;
+    let mut y = from / dw;
     let mut i = 0;
     while i < count {
         let own = rgba_at(beneath, 4, i);
         put(
             out,
             i,
-            composed(p, source, picture, channels, own, from + i),
+            composed(p, source, picture, channels, own, from + i, x, y),
         );
+        y = row_after(x, y, dw);
+        x = column_after(x, dw);
         i += 1;
     }
 }

@@ -1,25 +1,24 @@
 -- `compose::cell::composed` meets its contract. Assumes nothing.
+use mathlib.Core.Path.{_≡_, _∙_}
 use Rattle.float_steps.proofs.Choice.{yes, no}
-use Rattle.compose.proofs.Pixels.{some-width, reached, spot-held}
-use Rattle.compose.specs.Compose.{composedBy}
+use Rattle.compose.proofs.Pixels.{reached, spot-held}
+use Rattle.compose.specs.Compose.{spotOn, composedBy}
 use borrow.Author.Needs.{needs}
 use Rattle.compose.proofs.cell.composed.Statement.{statement}
 use Rattle.compose.proofs.cell.composed.Tie as tie
 
-rem-source-index : tie.Need-rem-source-index
-rem-source-index c = some-width _ _ _ (c .before .before .pre .1 .inside)
-
-div-source-index : tie.Need-div-source-index
-div-source-index c = some-width _ _ _ (c .before .before .pre .1 .inside)
+-- the spot is that of pixel j
+spot : (c : tie.After-source-index) → let s = c .before .before .before in c .source-index .result ≡ spotOn (s .args .p) (s .args .j)
+spot c = let s = c .before .before .before in c .source-index .ensures ∙ rw (s .pre .2, s .pre .3)
 
 source-index-requires : tie.Need-source-index-requires
-source-index-requires c κs = reached _ _ _ _ _ (c .before .before .pre .0) (c .before .before .pre .1)
+source-index-requires c κs = let s = c .before .before in rw (s .pre .2, s .pre .3) (reached _ _ _ _ _ (s .pre .0) (s .pre .1))
 
 writing-requires : tie.Need-writing-requires
 writing-requires c κs = search needs
 
 source-pixel-requires : tie.Need-source-pixel-requires
-source-pixel-requires c κs = (c .before .before .before .before .before .pre .0, spot-held _ _ _ _ _ _ _ (c .before .before .source-index .ensures))
+source-pixel-requires c κs = (c .before .before .before .before .before .pre .0, spot-held _ _ _ _ _ _ _ (spot (c .before .before)))
 
 values-requires : tie.Need-values-requires
 values-requires c κs = search needs
@@ -32,18 +31,16 @@ written-requires c κs = search needs
 
 returns : tie.Need-returns
 unfolding composedBy
-returns c = rw (← c .before .before .before .before .before .before .source-index .ensures, ← c .before .before .before .before .before .writing .ensures, c .written .ensures, c .before .result .ensures, c .before .before .values .ensures, c .before .before .before .source-pixel .ensures) (yes _ _ (c .before .before .before .before .if1 .taken))
+returns c = rw (← spot (c .before .before .before .before .before .before), ← c .before .before .before .before .before .writing .ensures, c .written .ensures, c .before .result .ensures, c .before .before .values .ensures, c .before .before .before .source-pixel .ensures) (yes _ _ (c .before .before .before .before .if1 .taken))
 
 returns-2 : tie.Need-returns-2
 unfolding composedBy
-returns-2 c = rw (← c .before .before .source-index .ensures, ← c .before .writing .ensures) (no _ _ (c .if1 .left))
+returns-2 c = rw (← spot (c .before .before), ← c .before .writing .ensures) (no _ _ (c .if1 .left))
 
 pub composed-spec : {M : Type 1} → statement M
 composed-spec =
     tie.close
     (tie.spec
-    rem-source-index
-    div-source-index
     source-index-requires
     writing-requires
     source-pixel-requires
