@@ -1,35 +1,23 @@
 -- An operator whose number has no fault is carried: it is neither Interpolate nor Blur. Assumes nothing.
 use mathlib.Core.Path.{_≡_, refl, ap, _∙_}
 use mathlib.Core.Bool.{Bool, true, false, cond, _||_}
-use mathlib.Core.List.{List, [], _∷_}
-use Prim.Native.Nat.{ℕ, zero, suc, _<_}
-use native.Mathlib.Nat.{le-of-suc-le-suc}
+use Prim.Native.Nat.{ℕ}
 use native.Mathlib.Omega.{arith}
 use lib.Dec.{eqb, ltb}
 use lib.IntN.{ℤ, pos, negsuc}
-use lib.ListN.{length}
 use borrow.Author.Tests.{ltb-true, eqb-false}
-use Rattle.operators.specs.Numbers.{count, opOf, opFault}
-use Rattle.operators.specs.Operators.{operators, numberOf, Is, onNth, opAt}
+use Rattle.operators.specs.Numbers.{opOf, opFault}
+use Rattle.operators.specs.Operators.{count, numberOf, opAt}
 use Rattle.operators.specs.declared.CompositeOp.{CompositeOp}
-use Rattle.operators.specs.declared.CompositeOp.the-variants.{Over, Interpolate, Blur}
+use Rattle.operators.specs.declared.CompositeOp.the-variants.{Interpolate, Blur}
 use Rattle.operators.specs.declared.Numbered.the-variants.{Op, Unknown, Curve}
-use Rattle.operators.proofs.Places.{number-at}
+use Rattle.operators.proofs.Places.{number-of}
 use Rattle.layers.specs.Cells.{natOf}
 use Rattle.layers.proofs.Ranges.{both-fail}
 
 pub record Carried (o : CompositeOp) : Type 0 where
   pub not-interpolate : o ≡ Interpolate → ⊥
   pub not-blur : o ≡ Blur → ⊥
-
-stands : (xs : List CompositeOp) (n : ℕ) → n < length xs → Is xs n (onNth Over (λ (o : CompositeOp). o) xs n)
-stands [] n h = absurd (omega arith)
-stands (x ∷ xs) zero h = refl
-stands (x ∷ xs) (suc n) h = stands xs n (le-of-suc-le-suc h)
-
--- the operator at a place below the count has that place's number
-number-of : (n : ℕ) → n < count → n ≡ numberOf (opAt n)
-number-of n h = number-at n (opAt n) (stands operators n h)
 
 passed : (below curve : Bool) (o : CompositeOp) → opFault (cond below (cond curve Curve (Op o)) Unknown) ≡ 0 → (below ≡ true) × (curve ≡ false)
 passed true true o e = absurd (omega arith)

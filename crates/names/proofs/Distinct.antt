@@ -1,15 +1,17 @@
 -- No two of the 83 names read the same, and each is read as its operator: two tests computed over the list, and what they say of
 -- its entries. Assumes nothing.
-use mathlib.Core.Path.{_≡_, refl, sym, ap}
+use mathlib.Core.Path.{_≡_, refl, sym, ap, _∙_}
 use mathlib.Core.Bool.{Bool, true, false, not, _&&_, _||_}
 use mathlib.Core.List.{List, [], _∷_, map}
 use Prim.Native.Nat.{ℕ, zero, suc, _<_}
 use native.Mathlib.Omega.{arith}
 use lib.Dec.{T, T-not, eqb, eqb→eq}
-use lib.ListN.{length, getD}
+use lib.ListN.{length, getD, List·getD-map}
 use borrow.Author.Tests.{eq-eqb}
+use Rattle.laws.proofs.Tables.{both, at-each}
 use Rattle.operators.specs.Operators.{numberOf}
-use Rattle.names.specs.Names.{Entry, entries, words, numbers, keyOf, same, isKept, lower, fromName}
+use Rattle.operators.specs.declared.CompositeOp.the-variants.{Over}
+use Rattle.names.specs.Names.{Entry, name, entries, words, numbers, keyOf, same, isKept, lower, fromName}
 use Rattle.names.specs.declared.Named.{Named}
 use Rattle.names.specs.declared.Named.the-variants.{Operator, Unknown}
 
@@ -35,10 +37,6 @@ among-at x [] j h e = absurd (omega arith)
 among-at x (w ∷ ws) zero h e = rw (e, same-refl w)
 among-at x (w ∷ ws) (suc j) h e = rw (among-at x ws j (omega arith) e) (or-true (same x w))
 
-both : (a b : Bool) → T (a && b) → T a × T b
-both true b t = (tt, t)
-both false b t = absurd t
-
 apart : (w : List ℕ) (ws : List (List ℕ)) (j : ℕ) → T (distinct (w ∷ ws)) → j < length ws → w ≡ getD ws j [] → ⊥
 apart w ws j t h e = T-not (among w ws) (both (not (among w ws)) (distinct ws) t .0) (rw (among-at w ws j h e) tt)
 
@@ -55,7 +53,7 @@ unfoldable pub keys : List (List ℕ)
 keys = map keyOf (words entries)
 
 -- no two of the 83 names read the same
-pub names-distinct : (i j : ℕ) → i < 83 → j < 83 → getD keys i [] ≡ getD keys j [] → i ≡ j
+pub names-distinct : (i j : ℕ) → i < length keys → j < length keys → getD keys i [] ≡ getD keys j [] → i ≡ j
 unfolding keys entries isKept lower
 names-distinct i j h g e = distinct-at keys tt i j h g e
 
@@ -68,16 +66,11 @@ is-operator : (r : Named) (n : ℕ) → T (isOperator r n) → r ≡ Operator n
 is-operator (Operator m) n t = ap Operator (eqb→eq m n t)
 is-operator Unknown n t = absurd t
 
-abbrev eachKnown : List Entry → Bool
-eachKnown [] = true
-eachKnown (e ∷ es) = isOperator (fromName (e .word)) (numberOf (e .op)) && eachKnown es
-
-known-at : (es : List Entry) → T (eachKnown es) → (k : ℕ) → k < length es → fromName (getD (words es) k []) ≡ Operator (getD (map (λ (e : Entry). numberOf (e .op)) es) k 0)
-known-at [] t k h = absurd (omega arith)
-known-at (e ∷ es) t zero h = is-operator (fromName (e .word)) (numberOf (e .op)) (both (isOperator (fromName (e .word)) (numberOf (e .op))) (eachKnown es) t .0)
-known-at (e ∷ es) t (suc k) h = known-at es (both (isOperator (fromName (e .word)) (numberOf (e .op))) (eachKnown es) t .1) k (omega arith)
-
 -- each of the 83 names is read as its operator
-pub names-known : (k : ℕ) → k < 83 → fromName (getD (words entries) k []) ≡ Operator (getD numbers k 0)
+pub names-known : (k : ℕ) → k < length entries → fromName (getD (words entries) k []) ≡ Operator (getD numbers k 0)
 unfolding fromName entries numbers isKept lower
-names-known k h = known-at entries tt k h
+names-known k h =
+    let none = name "" Over in
+    ap fromName (List·getD-map (λ (e : Entry). e .word) entries k none)
+    ∙ is-operator _ _ (at-each (λ i e. isOperator (fromName (e .word)) (numberOf (e .op))) none entries tt k h)
+    ∙ ap Operator (sym (List·getD-map (λ (e : Entry). numberOf (e .op)) entries k none))

@@ -1,14 +1,15 @@
 -- What a place in the list of names says. Assumes nothing.
-use mathlib.Core.Path.{_≡_, refl, sym, ap, _∙_}
+use mathlib.Core.Path.{_≡_, refl, ap, _∙_}
 use mathlib.Core.Bool.{Bool, true, false, cond}
 use mathlib.Core.List.{List, [], _∷_, map}
 use Prim.Native.Nat.{ℕ, zero, suc, _+_, _-_, _<_, _≤_}
 use native.Mathlib.Nat.{add-zero, add-suc, suc-add, zero-add}
 use native.Mathlib.Omega.{arith}
+use lib.Dec.{eqb, eqb→eq}
 use lib.ListN.{length, getD, take, drop}
 use lib.Seq.{getD-take, getD-drop}
-use Rattle.operators.specs.Operators.{numberOf}
-use Rattle.operators.specs.Numbers.{count}
+use Rattle.laws.proofs.Tables.{at-each}
+use Rattle.operators.specs.Operators.{count, numberOf}
 use Rattle.names.specs.Names.{Entry, entries, words, numbers, same, lookup}
 use Rattle.names.specs.Packed.{placeFrom}
 use Rattle.names.specs.declared.Named.{Named}
@@ -57,18 +58,10 @@ unfolding numbers entries
 numbers-count = refl
 
 -- the first numbers, those of the 70 names, are their own places
-abbrev up : ℕ → ℕ → List ℕ
-up i zero = []
-up i (suc n) = i ∷ up (suc i) n
-
-up-at : (i n k : ℕ) → k < n → getD (up i n) k 0 ≡ i + k
-up-at i zero k h = absurd (omega arith)
-up-at i (suc n) zero h = sym (add-zero i)
-up-at i (suc n) (suc k) h = up-at (suc i) n k (omega arith) ∙ rw (suc-add, ← add-suc)
-
 pub own-number : (k : ℕ) → k < count → k ≡ getD numbers k 0
 unfolding numbers entries
-own-number k h = sym (sym (getD-take count numbers k 0 h) ∙ up-at 0 count k h ∙ zero-add k)
+own-number k h =
+    eqb→eq k (getD (take count numbers) k 0) (at-each eqb 0 (take count numbers) tt k h) ∙ getD-take count numbers k 0 h
 
 -- the numbers of the aliases follow
 pub alias-number : (k : ℕ) → count ≤ k → getD (drop count numbers) (k - count) 0 ≡ getD numbers k 0

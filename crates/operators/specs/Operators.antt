@@ -1,159 +1,105 @@
 -- The operators and their numbers: `CompositeOp::ALL` and `is_map` (composite.rs, 198 to 269 and 380 to 382).
--- Document 01: "Numbers follow `CompositeOp::ALL`".
+-- Document 01: "Numbers follow `CompositeOp::ALL`". The order of `ALL` stands once, in `after`, from which both the list and the numbers are read:
+-- there is no test for equal operators, so a list alone would give an operator no number.
 use mathlib.Core.Path.{_≡_}
 use mathlib.Core.Bool.{Bool, false, _||_}
 use mathlib.Core.List.{List, [], _∷_}
-use Prim.Native.Nat.{ℕ, zero, suc}
+use mathlib.Core.Option.{Option, none, some}
+use Prim.Native.Nat.{ℕ, zero, suc, _-_}
 use lib.Dec.{eqb}
+use lib.ListN.{length, getD}
 use Rattle.operators.specs.declared.CompositeOp.{CompositeOp}
 use Rattle.operators.specs.declared.CompositeOp.the-variants as O
 
--- the operators in the order of `ALL`: an operator's number is its place
-abbrev pub operators : List CompositeOp
-operators =
-    O.Over
-    ∷ O.In
-    ∷ O.Out
-    ∷ O.Atop
-    ∷ O.Xor
-    ∷ O.Plus
-    ∷ O.Multiply
-    ∷ O.Screen
-    ∷ O.Overlay
-    ∷ O.Darken
-    ∷ O.Lighten
-    ∷ O.Difference
-    ∷ O.HardLight
-    ∷ O.SoftLight
-    ∷ O.ColorDodge
-    ∷ O.ColorBurn
-    ∷ O.Clear
-    ∷ O.Src
-    ∷ O.Dst
-    ∷ O.DstOver
-    ∷ O.DstIn
-    ∷ O.DstOut
-    ∷ O.DstAtop
-    ∷ O.MinusDst
-    ∷ O.MinusSrc
-    ∷ O.DivideDst
-    ∷ O.DivideSrc
-    ∷ O.ModulusAdd
-    ∷ O.ModulusSubtract
-    ∷ O.Exclusion
-    ∷ O.LinearBurn
-    ∷ O.LinearDodge
-    ∷ O.LinearLight
-    ∷ O.VividLight
-    ∷ O.PinLight
-    ∷ O.HardMix
-    ∷ O.PegtopLight
-    ∷ O.SoftBurn
-    ∷ O.SoftDodge
-    ∷ O.Stamp
-    ∷ O.Freeze
-    ∷ O.Reflect
-    ∷ O.Negate
-    ∷ O.Interpolate
-    ∷ O.Mathematics
-    ∷ O.Blend
-    ∷ O.Dissolve
-    ∷ O.Rmse
-    ∷ O.DarkenIntensity
-    ∷ O.LightenIntensity
-    ∷ O.Hue
-    ∷ O.Saturate
-    ∷ O.Luminize
-    ∷ O.Colorize
-    ∷ O.CopyRed
-    ∷ O.CopyGreen
-    ∷ O.CopyBlue
-    ∷ O.CopyAlpha
-    ∷ O.CopyCyan
-    ∷ O.CopyMagenta
-    ∷ O.CopyYellow
-    ∷ O.CopyBlack
-    ∷ O.ChangeMask
-    ∷ O.Bumpmap
-    ∷ O.Threshold
-    ∷ O.Displace
-    ∷ O.Distort
-    ∷ O.Blur
-    ∷ O.Intensity
-    ∷ O.Modulate
-    ∷ []
+-- the operators in the order of `ALL`, each with the one after it
+abbrev pub after : CompositeOp → Option CompositeOp
+after O.Over = some O.In
+after O.In = some O.Out
+after O.Out = some O.Atop
+after O.Atop = some O.Xor
+after O.Xor = some O.Plus
+after O.Plus = some O.Multiply
+after O.Multiply = some O.Screen
+after O.Screen = some O.Overlay
+after O.Overlay = some O.Darken
+after O.Darken = some O.Lighten
+after O.Lighten = some O.Difference
+after O.Difference = some O.HardLight
+after O.HardLight = some O.SoftLight
+after O.SoftLight = some O.ColorDodge
+after O.ColorDodge = some O.ColorBurn
+after O.ColorBurn = some O.Clear
+after O.Clear = some O.Src
+after O.Src = some O.Dst
+after O.Dst = some O.DstOver
+after O.DstOver = some O.DstIn
+after O.DstIn = some O.DstOut
+after O.DstOut = some O.DstAtop
+after O.DstAtop = some O.MinusDst
+after O.MinusDst = some O.MinusSrc
+after O.MinusSrc = some O.DivideDst
+after O.DivideDst = some O.DivideSrc
+after O.DivideSrc = some O.ModulusAdd
+after O.ModulusAdd = some O.ModulusSubtract
+after O.ModulusSubtract = some O.Exclusion
+after O.Exclusion = some O.LinearBurn
+after O.LinearBurn = some O.LinearDodge
+after O.LinearDodge = some O.LinearLight
+after O.LinearLight = some O.VividLight
+after O.VividLight = some O.PinLight
+after O.PinLight = some O.HardMix
+after O.HardMix = some O.PegtopLight
+after O.PegtopLight = some O.SoftBurn
+after O.SoftBurn = some O.SoftDodge
+after O.SoftDodge = some O.Stamp
+after O.Stamp = some O.Freeze
+after O.Freeze = some O.Reflect
+after O.Reflect = some O.Negate
+after O.Negate = some O.Interpolate
+after O.Interpolate = some O.Mathematics
+after O.Mathematics = some O.Blend
+after O.Blend = some O.Dissolve
+after O.Dissolve = some O.Rmse
+after O.Rmse = some O.DarkenIntensity
+after O.DarkenIntensity = some O.LightenIntensity
+after O.LightenIntensity = some O.Hue
+after O.Hue = some O.Saturate
+after O.Saturate = some O.Luminize
+after O.Luminize = some O.Colorize
+after O.Colorize = some O.CopyRed
+after O.CopyRed = some O.CopyGreen
+after O.CopyGreen = some O.CopyBlue
+after O.CopyBlue = some O.CopyAlpha
+after O.CopyAlpha = some O.CopyCyan
+after O.CopyCyan = some O.CopyMagenta
+after O.CopyMagenta = some O.CopyYellow
+after O.CopyYellow = some O.CopyBlack
+after O.CopyBlack = some O.ChangeMask
+after O.ChangeMask = some O.Bumpmap
+after O.Bumpmap = some O.Threshold
+after O.Threshold = some O.Displace
+after O.Displace = some O.Distort
+after O.Distort = some O.Blur
+after O.Blur = some O.Intensity
+after O.Intensity = some O.Modulate
+after O.Modulate = none
 
+-- the operators have the numbers below this one
+abbrev pub count : ℕ
+count = 70
+
+-- n operators of `ALL`, or all that are left, from one on
+abbrev pub onward : ℕ → Option CompositeOp → List CompositeOp
+onward zero o = []
+onward (suc n) none = []
+onward (suc n) (some o) = o ∷ onward n (after o)
+
+abbrev pub operators : List CompositeOp
+operators = onward count (some O.Over)
+
+-- an operator's number: as many stand before it
 abbrev pub numberOf : CompositeOp → ℕ
-numberOf O.Over = 0
-numberOf O.In = 1
-numberOf O.Out = 2
-numberOf O.Atop = 3
-numberOf O.Xor = 4
-numberOf O.Plus = 5
-numberOf O.Multiply = 6
-numberOf O.Screen = 7
-numberOf O.Overlay = 8
-numberOf O.Darken = 9
-numberOf O.Lighten = 10
-numberOf O.Difference = 11
-numberOf O.HardLight = 12
-numberOf O.SoftLight = 13
-numberOf O.ColorDodge = 14
-numberOf O.ColorBurn = 15
-numberOf O.Clear = 16
-numberOf O.Src = 17
-numberOf O.Dst = 18
-numberOf O.DstOver = 19
-numberOf O.DstIn = 20
-numberOf O.DstOut = 21
-numberOf O.DstAtop = 22
-numberOf O.MinusDst = 23
-numberOf O.MinusSrc = 24
-numberOf O.DivideDst = 25
-numberOf O.DivideSrc = 26
-numberOf O.ModulusAdd = 27
-numberOf O.ModulusSubtract = 28
-numberOf O.Exclusion = 29
-numberOf O.LinearBurn = 30
-numberOf O.LinearDodge = 31
-numberOf O.LinearLight = 32
-numberOf O.VividLight = 33
-numberOf O.PinLight = 34
-numberOf O.HardMix = 35
-numberOf O.PegtopLight = 36
-numberOf O.SoftBurn = 37
-numberOf O.SoftDodge = 38
-numberOf O.Stamp = 39
-numberOf O.Freeze = 40
-numberOf O.Reflect = 41
-numberOf O.Negate = 42
-numberOf O.Interpolate = 43
-numberOf O.Mathematics = 44
-numberOf O.Blend = 45
-numberOf O.Dissolve = 46
-numberOf O.Rmse = 47
-numberOf O.DarkenIntensity = 48
-numberOf O.LightenIntensity = 49
-numberOf O.Hue = 50
-numberOf O.Saturate = 51
-numberOf O.Luminize = 52
-numberOf O.Colorize = 53
-numberOf O.CopyRed = 54
-numberOf O.CopyGreen = 55
-numberOf O.CopyBlue = 56
-numberOf O.CopyAlpha = 57
-numberOf O.CopyCyan = 58
-numberOf O.CopyMagenta = 59
-numberOf O.CopyYellow = 60
-numberOf O.CopyBlack = 61
-numberOf O.ChangeMask = 62
-numberOf O.Bumpmap = 63
-numberOf O.Threshold = 64
-numberOf O.Displace = 65
-numberOf O.Distort = 66
-numberOf O.Blur = 67
-numberOf O.Intensity = 68
-numberOf O.Modulate = 69
+numberOf o = count - length (onward count (some o))
 
 -- o stands at place n of a list
 abbrev pub Is : List CompositeOp → ℕ → CompositeOp → Type 0
@@ -169,7 +115,7 @@ onNth z f (x ∷ xs) (suc n) = onNth z f xs n
 
 -- the operator with a number; past the last number, Over
 abbrev pub opAt : ℕ → CompositeOp
-opAt n = onNth O.Over (λ (o : CompositeOp). o) operators n
+opAt n = getD operators n O.Over
 
 -- o is one of a list
 abbrev pub isOneOf : List CompositeOp → CompositeOp → Bool

@@ -133,10 +133,10 @@ impl CompositeOp {
     pub fn at(n: u64) -> CompositeOp
         ensures { λ r. ⌜ r ≡ opAt n ⌝ }
     {
-        match table::lookup(n) {
-            table::Listed::At(op) => op,
-            table::Listed::Past => CompositeOp::Over,
+        if n < Self::COUNT {
+            return table::ALL[n as usize];
         }
+        CompositeOp::Over
     }
 
     // What a number names.

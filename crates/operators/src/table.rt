@@ -1,21 +1,88 @@
-// The table of the operators, read both ways: from the operator to its number and convention, and from a number to the operator.
-// Each arm's number decides what its contract asks, so that no arm needs a proof of its own.
+// The table of the operators, read both ways: from a number to the operator, and from the operator to its number and convention.
 ghost use mathlib.Core.Path.{_≡_};
 ghost use Rattle.operators.specs.Operators.{operators, Is};
-ghost use Rattle.operators.specs.Numbers.{ListedAs};
 ghost use Rattle.operators.specs.Conventions.{conventionAt};
 use super::CompositeOp;
 use super::Convention;
 
+// Every operator, in the order of their numbers.
+pub const ALL: [CompositeOp; 70] = [
+    CompositeOp::Over,
+    CompositeOp::In,
+    CompositeOp::Out,
+    CompositeOp::Atop,
+    CompositeOp::Xor,
+    CompositeOp::Plus,
+    CompositeOp::Multiply,
+    CompositeOp::Screen,
+    CompositeOp::Overlay,
+    CompositeOp::Darken,
+    CompositeOp::Lighten,
+    CompositeOp::Difference,
+    CompositeOp::HardLight,
+    CompositeOp::SoftLight,
+    CompositeOp::ColorDodge,
+    CompositeOp::ColorBurn,
+    CompositeOp::Clear,
+    CompositeOp::Src,
+    CompositeOp::Dst,
+    CompositeOp::DstOver,
+    CompositeOp::DstIn,
+    CompositeOp::DstOut,
+    CompositeOp::DstAtop,
+    CompositeOp::MinusDst,
+    CompositeOp::MinusSrc,
+    CompositeOp::DivideDst,
+    CompositeOp::DivideSrc,
+    CompositeOp::ModulusAdd,
+    CompositeOp::ModulusSubtract,
+    CompositeOp::Exclusion,
+    CompositeOp::LinearBurn,
+    CompositeOp::LinearDodge,
+    CompositeOp::LinearLight,
+    CompositeOp::VividLight,
+    CompositeOp::PinLight,
+    CompositeOp::HardMix,
+    CompositeOp::PegtopLight,
+    CompositeOp::SoftBurn,
+    CompositeOp::SoftDodge,
+    CompositeOp::Stamp,
+    CompositeOp::Freeze,
+    CompositeOp::Reflect,
+    CompositeOp::Negate,
+    CompositeOp::Interpolate,
+    CompositeOp::Mathematics,
+    CompositeOp::Blend,
+    CompositeOp::Dissolve,
+    CompositeOp::Rmse,
+    CompositeOp::DarkenIntensity,
+    CompositeOp::LightenIntensity,
+    CompositeOp::Hue,
+    CompositeOp::Saturate,
+    CompositeOp::Luminize,
+    CompositeOp::Colorize,
+    CompositeOp::CopyRed,
+    CompositeOp::CopyGreen,
+    CompositeOp::CopyBlue,
+    CompositeOp::CopyAlpha,
+    CompositeOp::CopyCyan,
+    CompositeOp::CopyMagenta,
+    CompositeOp::CopyYellow,
+    CompositeOp::CopyBlack,
+    CompositeOp::ChangeMask,
+    CompositeOp::Bumpmap,
+    CompositeOp::Threshold,
+    CompositeOp::Displace,
+    CompositeOp::Distort,
+    CompositeOp::Blur,
+    CompositeOp::Intensity,
+    CompositeOp::Modulate,
+];
+
 // An operator's number and convention.
 pub struct Row(pub u64, pub Convention);
 
-// What stands at a place of the list.
-pub enum Listed {
-    At(CompositeOp),
-    Past,
-}
-
+// Each arm's number decides what its contract asks, so that no arm needs a proof of its own.
 pub fn row_of(op: CompositeOp) -> Row
     ensures { λ r. ⌜ (Is operators (r .0) op) × (r .1 ≡ conventionAt (r .0)) ⌝ }
 {
@@ -90,83 +157,5 @@ pub fn row_of(op: CompositeOp) -> Row
         CompositeOp::Blur => Row(67, Convention::Premult),
         CompositeOp::Intensity => Row(68, Convention::Premult),
         CompositeOp::Modulate => Row(69, Convention::Premult),
-    }
-}
-
-pub fn lookup(n: u64) -> Listed
-    ensures { λ r. ⌜ ListedAs n r ⌝ }
-{
-    match n {
-        0 => Listed::At(CompositeOp::Over),
-        1 => Listed::At(CompositeOp::In),
-        2 => Listed::At(CompositeOp::Out),
-        3 => Listed::At(CompositeOp::Atop),
-        4 => Listed::At(CompositeOp::Xor),
-        5 => Listed::At(CompositeOp::Plus),
-        6 => Listed::At(CompositeOp::Multiply),
-        7 => Listed::At(CompositeOp::Screen),
-        8 => Listed::At(CompositeOp::Overlay),
-        9 => Listed::At(CompositeOp::Darken),
-        10 => Listed::At(CompositeOp::Lighten),
-        11 => Listed::At(CompositeOp::Difference),
-        12 => Listed::At(CompositeOp::HardLight),
-        13 => Listed::At(CompositeOp::SoftLight),
-        14 => Listed::At(CompositeOp::ColorDodge),
-        15 => Listed::At(CompositeOp::ColorBurn),
-        16 => Listed::At(CompositeOp::Clear),
-        17 => Listed::At(CompositeOp::Src),
-        18 => Listed::At(CompositeOp::Dst),
-        19 => Listed::At(CompositeOp::DstOver),
-        20 => Listed::At(CompositeOp::DstIn),
-        21 => Listed::At(CompositeOp::DstOut),
-        22 => Listed::At(CompositeOp::DstAtop),
-        23 => Listed::At(CompositeOp::MinusDst),
-        24 => Listed::At(CompositeOp::MinusSrc),
-        25 => Listed::At(CompositeOp::DivideDst),
-        26 => Listed::At(CompositeOp::DivideSrc),
-        27 => Listed::At(CompositeOp::ModulusAdd),
-        28 => Listed::At(CompositeOp::ModulusSubtract),
-        29 => Listed::At(CompositeOp::Exclusion),
-        30 => Listed::At(CompositeOp::LinearBurn),
-        31 => Listed::At(CompositeOp::LinearDodge),
-        32 => Listed::At(CompositeOp::LinearLight),
-        33 => Listed::At(CompositeOp::VividLight),
-        34 => Listed::At(CompositeOp::PinLight),
-        35 => Listed::At(CompositeOp::HardMix),
-        36 => Listed::At(CompositeOp::PegtopLight),
-        37 => Listed::At(CompositeOp::SoftBurn),
-        38 => Listed::At(CompositeOp::SoftDodge),
-        39 => Listed::At(CompositeOp::Stamp),
-        40 => Listed::At(CompositeOp::Freeze),
-        41 => Listed::At(CompositeOp::Reflect),
-        42 => Listed::At(CompositeOp::Negate),
-        43 => Listed::At(CompositeOp::Interpolate),
-        44 => Listed::At(CompositeOp::Mathematics),
-        45 => Listed::At(CompositeOp::Blend),
-        46 => Listed::At(CompositeOp::Dissolve),
-        47 => Listed::At(CompositeOp::Rmse),
-        48 => Listed::At(CompositeOp::DarkenIntensity),
-        49 => Listed::At(CompositeOp::LightenIntensity),
-        50 => Listed::At(CompositeOp::Hue),
-        51 => Listed::At(CompositeOp::Saturate),
-        52 => Listed::At(CompositeOp::Luminize),
-        53 => Listed::At(CompositeOp::Colorize),
-        54 => Listed::At(CompositeOp::CopyRed),
-        55 => Listed::At(CompositeOp::CopyGreen),
-        56 => Listed::At(CompositeOp::CopyBlue),
-        57 => Listed::At(CompositeOp::CopyAlpha),
-        58 => Listed::At(CompositeOp::CopyCyan),
-        59 => Listed::At(CompositeOp::CopyMagenta),
-        60 => Listed::At(CompositeOp::CopyYellow),
-        61 => Listed::At(CompositeOp::CopyBlack),
-        62 => Listed::At(CompositeOp::ChangeMask),
-        63 => Listed::At(CompositeOp::Bumpmap),
-        64 => Listed::At(CompositeOp::Threshold),
-        65 => Listed::At(CompositeOp::Displace),
-        66 => Listed::At(CompositeOp::Distort),
-        67 => Listed::At(CompositeOp::Blur),
-        68 => Listed::At(CompositeOp::Intensity),
-        69 => Listed::At(CompositeOp::Modulate),
-        _ => Listed::Past,
     }
 }

@@ -1,27 +1,21 @@
--- `CompositeOp::at` meets its contract: the table's answer is the operator at that place. Assumes nothing.
+-- `CompositeOp::at` meets its contract: the code's list is the definition's. Assumes nothing.
+use mathlib.Core.Path.{sym}
 use borrow.Author.Needs.{needs}
-use Rattle.operators.proofs.Numbers.{found, not-found}
+use lib.ListN.{List·getD-eq-default}
+use Rattle.laws.proofs.Tables.{getD-any}
+use Rattle.operators.specs.Operators.{operators}
+use Rattle.operators.specs.declared.CompositeOp.the-variants.{Over}
 use Rattle.operators.proofs.CompositeOp.at.Statement.{statement}
 use Rattle.operators.proofs.CompositeOp.at.Tie as tie
 
-lookup-requires : tie.Need-lookup-requires
-lookup-requires c κs = search needs
-
-enum-known-op : tie.Need-enum-known-op
-enum-known-op c = search needs
-
-enum-told : tie.Need-enum-told
-enum-told c = search needs
+array-copy-out-result : tie.Need-array-copy-out-result
+array-copy-out-result c = search needs
 
 returns : tie.Need-returns
-returns c =
-    let a = c .before .before .before in
-    found (a .before .args .n) (a .lookup .result) _ (a .lookup .ensures) (c .before .op .given .1)
+returns c = getD-any _ Over operators (c .before .before .args .n) (c .before .if1 .taken)
 
 returns-2 : tie.Need-returns-2
-returns-2 c =
-    let a = c .before .before in
-    not-found (a .before .args .n) (a .lookup .result) (a .lookup .ensures) (c .enum-told .given .1)
+returns-2 c = sym (List·getD-eq-default operators Over {n = c .before .args .n} (c .if1 .left))
 
 pub at-spec : {M : Type 1} → statement M
-at-spec = tie.close (tie.spec lookup-requires enum-known-op enum-told returns returns-2)
+at-spec = tie.close (tie.spec array-copy-out-result returns returns-2)

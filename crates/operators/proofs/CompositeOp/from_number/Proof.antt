@@ -1,33 +1,34 @@
 -- `CompositeOp::from_number` meets its contract: one law for each test on the way. A signed local holds bits, and `toZ-ofZ`
 -- reads the number back. Assumes nothing.
-use mathlib.Core.Path.{_≡_}
+use mathlib.Core.Path.{_≡_, refl, sym, ap}
 use lib.IntN.{pos, natAbs}
 use mir.Facts.{toZ-ofZ}
 use borrow.Author.Needs.{needs}
-use Rattle.operators.proofs.Numbers.{negative, natural, not-negative, past, interpolate, blur, carried}
+use Rattle.laws.proofs.Signed.{below-zero, from-zero, casts}
+use Rattle.operators.specs.Numbers.{opOf}
+use Rattle.operators.specs.declared.CompositeOp.the-variants.{Interpolate, Blur}
+use Rattle.operators.proofs.Numbers.{past, curve, carried}
 use Rattle.operators.proofs.CompositeOp.from_number.Statement.{statement}
 use Rattle.operators.proofs.CompositeOp.from_number.Tie as tie
 
 -- past the first test the number is natural
 here : (c : tie.Else1) → c .before .args .n ≡ pos (natAbs (c .before .args .n))
-here c = natural (c .before .args .n) (rw (toZ-ofZ (c .before .fits .n)) at (c .if1 .left))
+here c = from-zero (c .before .fits .n) (c .if1 .left)
 
 returns : tie.Need-returns
-returns c = negative (c .before .args .n) (rw (toZ-ofZ (c .before .fits .n)) at (c .if1 .taken))
+returns c = sym (ap opOf (below-zero (c .before .fits .n) (c .if1 .taken)))
 
 cast-k : tie.Need-cast-k
-cast-k c =
-    let s = c .before in
-    rw (toZ-ofZ (s .fits .n)) (not-negative (s .args .n) (rw (toZ-ofZ (s .fits .n)) at (c .if1 .left)) (s .fits .n))
+cast-k c = casts (c .before .fits .n) (c .if1 .left)
 
 returns-2 : tie.Need-returns-2
 returns-2 c = past _ _ (here (c .before)) (rw (toZ-ofZ (c .before .before .fits .n)) at (c .if2 .taken))
 
 returns-3 : tie.Need-returns-3
-returns-3 c = interpolate _ _ (here (c .before .before)) (rw (toZ-ofZ (c .before .before .before .fits .n)) at (c .if3 .taken))
+returns-3 c = curve _ _ (here (c .before .before)) Interpolate (rw (toZ-ofZ (c .before .before .before .fits .n)) at (c .if3 .taken)) refl
 
 returns-4 : tie.Need-returns-4
-returns-4 c = blur _ _ (here (c .before .before .before)) (rw (toZ-ofZ (c .before .before .before .before .fits .n)) at (c .if4 .taken))
+returns-4 c = curve _ _ (here (c .before .before .before)) Blur (rw (toZ-ofZ (c .before .before .before .before .fits .n)) at (c .if4 .taken)) refl
 
 at-requires : tie.Need-at-requires
 at-requires c κs = search needs
