@@ -1,44 +1,22 @@
--- Numbers of the layer table: what the code's tests tell of them, and the bounds of those in their ranges. Assumes nothing.
+-- Numbers of the layer table: the bounds of those in their ranges. Assumes nothing.
 use mathlib.Core.Path.{_≡_, refl}
 use mathlib.Core.Bool.{Bool, true, false, not, _||_}
 use mathlib.Core.Logic.{_⊎_, inl, inr}
-use Prim.Native.Nat.{ℕ, _*_, _<_, _≤_}
+use Prim.Native.Nat.{ℕ, _*_, _≤_}
 use native.Mathlib.Omega.{arith}
 use native.Mathlib.Nat.{mul-le-mul, le-trans}
 use lib.Dec.{ltb, eqb, lit≤}
-use lib.IntN.{ℤ, pos, negsuc, natAbs}
-use lib.Signed.{ltZ, mag}
-use borrow.Author.Tests.{ltb-true, ltb-false, eqb-true}
+use lib.IntN.{ℤ, pos, negsuc}
+use lib.Signed.{mag}
+use borrow.Author.Tests.{ltb-false, eqb-true}
 use Rattle.places.specs.Bounds.{slack}
 use Rattle.layers.specs.Cells.{natOf, outsideZ, badChannels, badShape, areaOf}
 use Rattle.layers.specs.Limits.{mostSide}
-
--- ---- what the code's tests tell
-
-pub negative : (z : ℤ) → ltZ z (pos 0) ≡ true → 0 ≡ natOf z
-unfolding natOf
-negative (pos n) e = let h : n < 0 = ltb-true n 0 e in absurd (omega arith)
-negative (negsuc n) e = refl
-
-pub natural : (z : ℤ) → ltZ z (pos 0) ≡ false → natAbs z ≡ natOf z
-unfolding natOf
-natural (pos n) e = refl
-natural (negsuc n) e = let x : _≡_ {A = ℕ} 0 1 = cc in absurd (omega arith)
 
 pub nat-mag : (z : ℤ) → natOf z ≤ mag z
 unfolding natOf
 nat-mag (pos n) = omega arith
 nat-mag (negsuc n) = omega arith
-
-pub channels-negative : (z : ℤ) → ltZ z (pos 0) ≡ true → true ≡ badChannels z
-unfolding badChannels
-channels-negative (pos n) e = let h : n < 0 = ltb-true n 0 e in absurd (omega arith)
-channels-negative (negsuc n) e = refl
-
-pub channels-natural : (z : ℤ) → ltZ z (pos 0) ≡ false → not (eqb (natAbs z) 1 || eqb (natAbs z) 3 || eqb (natAbs z) 4) ≡ badChannels z
-unfolding badChannels
-channels-natural (pos n) e = refl
-channels-natural (negsuc n) e = let x : _≡_ {A = ℕ} 0 1 = cc in absurd (omega arith)
 
 -- ---- a test that fails
 

@@ -1,4 +1,3 @@
 pub mod Anchors
-pub mod Numbers
 pub mod Signed
 pub mod Spots

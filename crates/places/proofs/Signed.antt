@@ -3,12 +3,12 @@ use mathlib.Core.Path.{_≡_, ap, _∙_}
 use mathlib.Core.Bool.{Bool, true, false, cond}
 use Prim.Native.Nat.{ℕ, zero, suc, _+_, _-_, _/_, _<_, _≤_}
 use native.Mathlib.Omega.{arith}
-use lib.Dec.{T, ltb}
-use lib.IntN.{ℤ, pos, negsuc, negℤ, natAbs, _+ℤ_, _-ℤ_}
-use lib.Signed.{mag, quotZ, ltZ, nonNeg}
-use borrow.Author.Tests.{ltb-true, le-ltb}
+use lib.Dec.{ltb}
+use lib.IntN.{ℤ, pos, negsuc, negℤ, _+ℤ_, _-ℤ_}
+use lib.Signed.{mag, quotZ}
+use borrow.Author.Tests.{le-ltb}
 use mir.Syntax.{w64}
-use mir.Val.{SFits, Fits, toZ, ofZ}
+use mir.Val.{SFits, toZ, ofZ}
 use mir.Facts.{toZ-ofZ}
 
 -- a number small enough fits, and is read back from its bits
@@ -49,11 +49,5 @@ mag-half (pos a) = omega arith
 mag-half (negsuc a) = mag-down (suc a / 2) a (omega arith)
 
 -- −1 − z of a negative z
-pub minus-one : (z : ℤ) → ltZ z (pos 0) ≡ true → negsuc 0 -ℤ z ≡ pos (mag z)
-minus-one (pos n) e = let h : n < 0 = ltb-true n 0 e in absurd (omega arith)
-minus-one (negsuc n) e = rw (le-ltb (suc n) 1 (omega arith)) (ap pos (omega arith))
-
--- a number that is not negative casts to an unsigned one
-pub not-negative : (z : ℤ) → ltZ z (pos 0) ≡ false → SFits w64 z → T (nonNeg z) × Fits w64 (natAbs z)
-not-negative (pos n) e f = (tt, record { fits = omega (arith, f .sfits) })
-not-negative (negsuc n) e f = let z : _≡_ {A = ℕ} 0 1 = cc in absurd (omega arith)
+pub minus-one : {z : ℤ} → z ≡ negsuc (mag z) → negsuc 0 -ℤ z ≡ pos (mag z)
+minus-one {z} e = ap (λ (y : ℤ). negsuc 0 -ℤ y) e ∙ rw (le-ltb (suc (mag z)) 1 (omega arith)) (ap pos (omega arith))

@@ -5,8 +5,8 @@ use Prim.Native.Nat.{ℕ, suc, _+_, _-_, _*_, _/_, _%_, _<_, _≤_}
 use native.Mathlib.Omega.{arith}
 use native.Mathlib.Nat.{mod-lt, div-add-mod', mul-le-mul, suc-mul, mul-comm, le-refl}
 use lib.Dec.{ltb}
-use lib.IntN.{ℤ, pos, negsuc, natAbs, _+ℤ_, _-ℤ_, _*ℤ_}
-use lib.Signed.{mag, ltZ, shrZ}
+use lib.IntN.{ℤ, pos, negsuc, _+ℤ_, _-ℤ_, _*ℤ_}
+use lib.Signed.{shrZ}
 use borrow.Author.Tests.{ltb-true, lt-ltb, le-ltb}
 use Rattle.places.specs.declared.Corner.{Corner}
 use Rattle.places.specs.declared.Spot.{Spot}
@@ -16,25 +16,12 @@ use Rattle.places.specs.Spots.{remEuclid, insideOf, spotOf, tiles, index
 
 -- ---- what the code's tests tell
 
-pub rem-negative : (z : ℤ) (m : ℕ) → ltZ z (pos 0) ≡ true → m - 1 - mag z % m ≡ remEuclid z m
-rem-negative (pos n) m e = let h : n < 0 = ltb-true n 0 e in absurd (omega arith)
-rem-negative (negsuc n) m e = refl
+module _ (side k : ℕ) {z : ℤ} (here : z ≡ pos k) where
+  pub at-inside : k < side → At k ≡ insideOf side z
+  at-inside h = rw (here, lt-ltb k side h)
 
-pub rem-positive : (z : ℤ) (m : ℕ) → ltZ z (pos 0) ≡ false → natAbs z % m ≡ remEuclid z m
-rem-positive (pos n) m e = refl
-rem-positive (negsuc n) m e = let x : _≡_ {A = ℕ} 0 1 = cc in absurd (omega arith)
-
-pub off-negative : (side : ℕ) (z : ℤ) → ltZ z (pos 0) ≡ true → Off ≡ insideOf side z
-off-negative side (pos n) e = let h : n < 0 = ltb-true n 0 e in absurd (omega arith)
-off-negative side (negsuc n) e = refl
-
-pub at-inside : (side : ℕ) (z : ℤ) → ltZ z (pos 0) ≡ false → natAbs z < side → At (natAbs z) ≡ insideOf side z
-at-inside side (pos n) e h = rw (lt-ltb n side h)
-at-inside side (negsuc n) e h = let x : _≡_ {A = ℕ} 0 1 = cc in absurd (omega arith)
-
-pub off-past : (side : ℕ) (z : ℤ) → ltZ z (pos 0) ≡ false → side ≤ natAbs z → Off ≡ insideOf side z
-off-past side (pos n) e h = rw (le-ltb n side h)
-off-past side (negsuc n) e h = refl
+  pub off-past : side ≤ k → Off ≡ insideOf side z
+  off-past h = rw (here, le-ltb k side h)
 
 pub spot-empty : (tile : Bool) (z : ℤ) → Off ≡ spotOf tile 0 z
 unfolding spotOf

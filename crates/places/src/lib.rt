@@ -46,23 +46,28 @@ impl Gravity {
     // The largest number of a gravity.
     pub const LAST: u64 = 9;
 
+    // The gravities in the order of their numbers.
+    const ALL: [Gravity; 10] = [
+        Gravity::Unset,
+        Gravity::NorthWest,
+        Gravity::North,
+        Gravity::NorthEast,
+        Gravity::West,
+        Gravity::Centre,
+        Gravity::East,
+        Gravity::SouthWest,
+        Gravity::South,
+        Gravity::SouthEast,
+    ];
+
     // The gravity of a number; past the last one, `Unset`.
     pub fn from_number(n: u64) -> Gravity
         ensures { λ r. ⌜ r ≡ gravityAt n ⌝ }
     {
-        match n {
-            0 => Gravity::Unset,
-            1 => Gravity::NorthWest,
-            2 => Gravity::North,
-            3 => Gravity::NorthEast,
-            4 => Gravity::West,
-            5 => Gravity::Centre,
-            6 => Gravity::East,
-            7 => Gravity::SouthWest,
-            8 => Gravity::South,
-            9 => Gravity::SouthEast,
-            _ => Gravity::Unset,
+        if n <= Self::LAST {
+            return Self::ALL[n as usize];
         }
+        Gravity::Unset
     }
 
     // Where a source lies from left to right.

@@ -1,32 +1,29 @@
 -- `places::rem_euclid` meets its contract: below zero, −1 − z is exact and not negative. Assumes nothing.
-use mathlib.Core.Path.{_≡_}
-use mathlib.Core.Bool.{true, false}
+use mathlib.Core.Path.{_≡_, sym, ap}
 use Prim.Native.Nat.{_-_}
 use native.Mathlib.Omega.{arith}
 use native.Mathlib.Nat.{mod-lt}
 use borrow.Author.Needs.{needs}
-use lib.IntN.{pos, negsuc, _-ℤ_}
-use lib.Signed.{mag, ltZ}
+use lib.IntN.{ℤ, pos, negsuc, _-ℤ_}
+use lib.Signed.{mag}
 use mir.Syntax.{w64}
 use mir.Facts.{toZ-ofZ}
 use mir.Val.{toZ, ofZ}
-use Rattle.places.proofs.Signed.{sfits, back, minus-one, not-negative}
-use Rattle.places.proofs.Spots.{rem-negative, rem-positive}
+use Rattle.laws.proofs.Signed.{below-zero, from-zero, casts}
+use Rattle.places.specs.Spots.{remEuclid}
+use Rattle.places.proofs.Signed.{sfits, back, minus-one}
 use Rattle.places.proofs.rem_euclid.Statement.{statement}
 use Rattle.places.proofs.rem_euclid.Tie as tie
 
-below : (c : tie.Then1) → ltZ (c .before .args .z) (pos 0) ≡ true
-below c = rw (toZ-ofZ (c .before .fits .z)) at (c .if1 .taken)
-
-natural : (c : tie.Else1) → ltZ (c .before .args .z) (pos 0) ≡ false
-natural c = rw (toZ-ofZ (c .before .fits .z)) at (c .if1 .left)
+below : (c : tie.Then1) → c .before .args .z ≡ negsuc (mag (c .before .args .z))
+below c = below-zero (c .before .fits .z) (c .if1 .taken)
 
 -- what −1 − z is, as the code has it
 value : (c : tie.Then1) → toZ w64 (ofZ w64 (negsuc 0 -ℤ toZ w64 (ofZ w64 (c .before .args .z)))) ≡ pos (mag (c .before .args .z))
-value c = rw (toZ-ofZ (c .before .fits .z), minus-one (c .before .args .z) (below c)) (back (c .before .fits .z .sfits))
+value c = rw (toZ-ofZ (c .before .fits .z), minus-one (below c)) (back (c .before .fits .z .sfits))
 
 sub-n : tie.Need-sub-n
-sub-n c = rw (toZ-ofZ (c .before .fits .z), minus-one (c .before .args .z) (below c)) (sfits (c .before .fits .z .sfits))
+sub-n c = rw (toZ-ofZ (c .before .fits .z), minus-one (below c)) (sfits (c .before .fits .z .sfits))
 
 cast-n : tie.Need-cast-n
 cast-n c = rw (value c) (tt, record { fits = omega (arith, c .before .fits .z .sfits) })
@@ -41,16 +38,18 @@ sub-result-2 : tie.Need-sub-result-2
 sub-result-2 c = rw (value c) (omega (arith, mod-lt (mag (c .before .args .z)) {m = c .before .args .m} (c .before .pre)))
 
 returns : tie.Need-returns
-returns c = rw (value c) (rem-negative (c .before .args .z) (c .before .args .m) (below c))
+returns c = rw (value c) (sym (ap (λ (z : ℤ). remEuclid z (c .before .args .m)) (below c)))
 
 cast-result : tie.Need-cast-result
-cast-result c = rw (toZ-ofZ (c .before .fits .z)) (not-negative (c .before .args .z) (natural c) (c .before .fits .z))
+cast-result c = casts (c .before .fits .z) (c .if1 .left)
 
 rem-result-2 : tie.Need-rem-result-2
 rem-result-2 c = search needs
 
 returns-2 : tie.Need-returns-2
-returns-2 c = rw (toZ-ofZ (c .before .fits .z)) (rem-positive (c .before .args .z) (c .before .args .m) (natural c))
+returns-2 c =
+    let f = c .before .fits .z in
+    rw (toZ-ofZ f) (sym (ap (λ (z : ℤ). remEuclid z (c .before .args .m)) (from-zero f (c .if1 .left))))
 
 pub rem-euclid-spec : {M : Type 1} → statement M
 rem-euclid-spec =

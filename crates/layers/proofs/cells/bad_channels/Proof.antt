@@ -1,31 +1,26 @@
 -- `layers::cells::bad_channels` meets its contract. Assumes nothing.
-use mathlib.Core.Path.{_≡_, sym}
-use mathlib.Core.Bool.{false, not, _||_}
+use mathlib.Core.Path.{_≡_, sym, ap}
+use mathlib.Core.Bool.{not, _||_}
 use lib.Dec.{eqb}
-use lib.IntN.{pos, natAbs}
-use lib.Signed.{ltZ}
+use lib.IntN.{natAbs}
 use mir.Facts.{toZ-ofZ}
 use borrow.Author.Tests.{ne-eqb}
-use Rattle.places.proofs.Signed.{not-negative}
+use Rattle.laws.proofs.Signed.{below-zero, from-zero, casts}
 use Rattle.layers.specs.Cells.{badChannels}
-use Rattle.layers.proofs.Ranges.{channels-negative, channels-natural}
 use Rattle.layers.proofs.cells.bad_channels.Statement.{statement}
 use Rattle.layers.proofs.cells.bad_channels.Tie as tie
 
-natural : (c : tie.Else1) → ltZ (c .before .args .z) (pos 0) ≡ false
-natural c = rw (toZ-ofZ (c .before .fits .z)) at (c .if1 .left)
-
 -- the definition at the number that the code tests
 at : (c : tie.Else1) → badChannels (c .before .args .z) ≡ not (eqb (natAbs (c .before .args .z)) 1 || eqb (natAbs (c .before .args .z)) 3 || eqb (natAbs (c .before .args .z)) 4)
-at c = sym (channels-natural (c .before .args .z) (natural c))
+unfolding badChannels
+at c = ap badChannels (from-zero (c .before .fits .z) (c .if1 .left))
 
 returns : tie.Need-returns
-returns c = channels-negative (c .before .args .z) (rw (toZ-ofZ (c .before .fits .z)) at (c .if1 .taken))
+unfolding badChannels
+returns c = sym (ap badChannels (below-zero (c .before .fits .z) (c .if1 .taken)))
 
 cast-n : tie.Need-cast-n
-cast-n c =
-    let s = c .before in
-    rw (toZ-ofZ (s .fits .z)) (not-negative (s .args .z) (natural c) (s .fits .z))
+cast-n c = casts (c .before .fits .z) (c .if1 .left)
 
 returns-2 : tie.Need-returns-2
 returns-2 c = rw (at (c .before), rw (toZ-ofZ (c .before .before .fits .z)) at (c .if2 .taken))
