@@ -16,13 +16,13 @@ use Rattle.places.specs.Bounds.{slack, Measured}
 use Rattle.places.specs.Gravities.{lastGravity}
 use Rattle.layers.specs.declared.Layer.{Layer}
 use Rattle.layers.specs.declared.Verdict.{Verdict}
-use Rattle.layers.specs.Cells.{cellOf, natOf, outsideZ, badShape, areaOf}
+use Rattle.layers.specs.Cells.{cellOf, natOf, outsideZ, badShape, areaOf, Channels}
 use Rattle.layers.specs.Faults.{orElse, faultIf, badOffset, badPlacing, badSource, layerFault}
 use Rattle.layers.specs.Inputs.{Inputs, verdict, badStack, badDst, rowsFault, jobFault}
 use Rattle.layers.specs.Layers.{layerAt}
 use Rattle.layers.specs.Limits.{columns, argWords, mostLayers, mostOffset, mostFlags, atOperator, atGravity, atRight, atDown, atFlags, atFirst, atWidth, atHeight, atChannels, atCount}
 use Rattle.layers.proofs.Carried.{Carried, carried}
-use Rattle.layers.proofs.Ranges.{Ranged, ranged, Channels, Shaped, shaped, both-fail, not-fails}
+use Rattle.layers.proofs.Ranges.{Ranged, ranged, Shaped, shaped, both-fail, not-fails}
 
 -- a layer whose row has no fault, for the number of the source samples
 pub record GoodLayer (samples : ℕ) (l : Layer) : Type 0 where

@@ -1,7 +1,7 @@
 -- Numbers of the layer table: the bounds of those in their ranges. Assumes nothing.
 use mathlib.Core.Path.{_≡_, refl}
 use mathlib.Core.Bool.{Bool, true, false, not, _||_}
-use mathlib.Core.Logic.{_⊎_, inl, inr}
+use mathlib.Core.Logic.{inl, inr}
 use Prim.Native.Nat.{ℕ, _*_, _≤_}
 use native.Mathlib.Omega.{arith}
 use native.Mathlib.Nat.{mul-le-mul, le-trans}
@@ -10,7 +10,7 @@ use lib.IntN.{ℤ, pos, negsuc}
 use lib.Signed.{mag}
 use borrow.Author.Tests.{ltb-false, eqb-true}
 use Rattle.places.specs.Bounds.{slack}
-use Rattle.layers.specs.Cells.{natOf, outsideZ, badChannels, badShape, areaOf}
+use Rattle.layers.specs.Cells.{natOf, outsideZ, badChannels, Channels, badShape, areaOf}
 use Rattle.layers.specs.Limits.{mostSide}
 
 pub nat-mag : (z : ℤ) → natOf z ≤ mag z
@@ -42,10 +42,6 @@ ranged lo hi (pos n) e =
     let p = both-fail (ltb n lo) (ltb hi n) e in
     record { natural = refl; least = ltb-false n lo (p .0); most = ltb-false hi n (p .1) }
 ranged lo hi (negsuc n) e = let x : _≡_ {A = ℕ} 0 1 = cc in absurd (omega arith)
-
--- 1, 3 or 4
-abbrev pub Channels : ℕ → Type 0
-Channels n = (n ≡ 1) ⊎ ((n ≡ 3) ⊎ (n ≡ 4))
 
 one-of : (a b c : Bool) (n : ℕ) → eqb n 1 ≡ a → eqb n 3 ≡ b → eqb n 4 ≡ c → (a || b || c) ≡ true → Channels n
 one-of true b c n p q r e = inl (eqb-true n 1 p)

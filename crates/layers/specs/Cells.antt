@@ -1,6 +1,8 @@
 -- The numbers of the layer table (document 01: sheet), and what is asked of one number.
 use mathlib.Core.Bool.{Bool, true, not, _||_}
 use mathlib.Core.List.{List}
+use mathlib.Core.Logic.{_⊎_}
+use mathlib.Core.Path.{_≡_}
 use Prim.Native.Nat.{ℕ, _+_, _*_}
 use lib.Dec.{eqb}
 use lib.IntN.{ℤ, pos, negsuc}
@@ -25,6 +27,10 @@ outsideZ lo hi z = ltZ z lo || ltZ hi z
 unfoldable pub badChannels : ℤ → Bool
 badChannels (pos n) = not (eqb n 1 || eqb n 3 || eqb n 4)
 badChannels (negsuc n) = true
+
+-- the same of a natural number, as a fact
+abbrev pub Channels : ℕ → Type 0
+Channels n = (n ≡ 1) ⊎ ((n ≡ 3) ⊎ (n ≡ 4))
 
 -- a side or the channels of a picture are out of their range
 unfoldable pub badShape : ℤ → ℤ → ℤ → Bool

@@ -10,18 +10,19 @@ use lib.Seq.{getD-append-add, getD-take}
 use Rattle.float_steps.specs.Words.{wordOf}
 use Rattle.pictures.specs.declared.Words.{Words}
 use Rattle.pictures.specs.Widen.{wordsOf, fourAt, rgbaAt, valuesOf}
+use Rattle.layers.specs.Cells.{Channels}
 use Rattle.narrowing.specs.Luma.{lumaOf}
-use Rattle.narrowing.specs.Narrow.{Wanted, narrowedPixel, narrowedOf}
+use Rattle.narrowing.specs.Narrow.{narrowedPixel, narrowedOf}
 
 -- ---- how many
 
-length-pixel : (k : ℕ) (w : Words) → Wanted k → length (narrowedPixel k w) ≡ k
+length-pixel : (k : ℕ) (w : Words) → Channels k → length (narrowedPixel k w) ≡ k
 unfolding narrowedPixel
 length-pixel k w (inl e) = rw e
 length-pixel k w (inr (inl e)) = rw e
 length-pixel k w (inr (inr e)) = rw e
 
-pub length-narrowed : (k : ℕ) (input : List ℕ) → Wanted k → length (narrowedOf k input) ≡ length input / 4 * k
+pub length-narrowed : (k : ℕ) (input : List ℕ) → Channels k → length (narrowedOf k input) ≡ length input / 4 * k
 unfolding narrowedOf
 length-narrowed k [] h = sym (zero-mul k)
 length-narrowed k (r ∷ []) h = sym (zero-mul k)
@@ -46,7 +47,7 @@ four-past r g b a rest j = rw (first j, past j 1, past j 2, past j 3)
     past j c = omega arith
 
 -- word c of pixel j
-pub narrowed-word : (k : ℕ) (input : List ℕ) (j c : ℕ) → Wanted k → c < k → 4 * j + 4 ≤ length input → getD (narrowedOf k input) (j * k + c) 0 ≡ getD (narrowedPixel k (fourAt input (4 * j))) c 0
+pub narrowed-word : (k : ℕ) (input : List ℕ) (j c : ℕ) → Channels k → c < k → 4 * j + 4 ≤ length input → getD (narrowedOf k input) (j * k + c) 0 ≡ getD (narrowedPixel k (fourAt input (4 * j))) c 0
 unfolding narrowedOf
 narrowed-word k [] j c h l i = absurd (omega arith)
 narrowed-word k (r ∷ []) j c h l i = absurd (omega arith)

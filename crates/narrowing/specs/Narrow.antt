@@ -3,8 +3,6 @@
 -- without `luma` is copied with all its bits; bytes as `narrow_u8`; a refusal writes nothing. Definitions only.
 use mathlib.Core.Bool.{cond, not, _||_}
 use mathlib.Core.List.{List, [], _∷_, _++_, map}
-use mathlib.Core.Logic.{_⊎_}
-use mathlib.Core.Path.{_≡_}
 use Prim.Native.Nat.{ℕ, _*_, _/_, _%_}
 use lib.Dec.{eqb}
 use lib.IntN.{ℤ}
@@ -68,14 +66,6 @@ narrowBytesOf wanted input output =
 
 -- ---- what the code works with
 
--- the channels wanted; 0 where they are none of 1, 3 and 4
-unfoldable pub channelsOf : ℤ → ℕ
-channelsOf wanted = cond (badChannels wanted) 0 (natOf wanted)
-
 -- the channels wanted; 0 where there is a fault
 unfoldable pub acceptedOf : ℤ → ℕ → ℕ → ℕ
 acceptedOf wanted input output = cond (eqb (narrowFault wanted input output) 0) (natOf wanted) 0
-
--- 1, 3 or 4
-abbrev pub Wanted : ℕ → Type 0
-Wanted n = (n ≡ 1) ⊎ ((n ≡ 3) ⊎ (n ≡ 4))

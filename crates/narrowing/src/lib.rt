@@ -4,11 +4,13 @@
 ghost use mathlib.Core.Path.{_≡_};
 ghost use Prim.Native.Nat.{_*_, _/_, _<_};
 ghost use lib.ListN.{length, getD};
+ghost use Rattle.layers.specs.Cells.{Channels};
 ghost use Rattle.narrowing.specs.Luma.{lumaOf};
-ghost use Rattle.narrowing.specs.Narrow.{narrowedOf, narrowed, narrowOf, narrowBytesOf, channelsOf, acceptedOf, Wanted};
+ghost use Rattle.narrowing.specs.Narrow.{narrowedOf, narrowed, narrowOf, narrowBytesOf, acceptedOf};
 use float_steps::whole::byte;
 use float_steps::words::value;
 use float_steps::words::word;
+use layers::cells;
 use pictures::Rgba;
 use pictures::widen::rgba_at;
 use pictures::widen::values;
@@ -33,7 +35,7 @@ fn kept(input: &[u32], at: usize) -> u32
 
 // Word i of the narrowed picture.
 fn narrowed_at(channels: usize, input: &[u32], i: usize) -> u32
-    requires { ⌜ Wanted channels × (i < length (now input) / 4 * channels) ⌝ }
+    requires { ⌜ Channels channels × (i < length (now input) / 4 * channels) ⌝ }
     ensures { λ r. ⌜ r ≡ getD (narrowedOf channels (now (input .entry))) i 0 ⌝ }
 {
     if channels == 1 {
@@ -45,27 +47,17 @@ fn narrowed_at(channels: usize, input: &[u32], i: usize) -> u32
     kept(input, i)
 }
 
-// The channels wanted; 0 where they are none of 1, 3 and 4.
-fn channels_of(wanted: i64) -> usize
-    ensures { λ r. ⌜ r ≡ channelsOf wanted ⌝ }
-{
-    if wanted == 1 {
-        return 1;
-    }
-    if wanted == 3 {
-        return 3;
-    }
-    if wanted == 4 { 4 } else { 0 }
-}
-
 // The channels wanted; 0 where they, or the lengths of the input and the output, are refused.
 fn accepted(wanted: i64, input: usize, output: usize) -> usize
     ensures { λ r. ⌜ r ≡ acceptedOf wanted input output ⌝ }
 {
-    let channels = channels_of(wanted);
+    if cells::bad_channels(wanted) {
+        return 0;
+    }
     if input % 4 != 0 {
         return 0;
     }
+    let channels = cells::natural(wanted);
     if output == input / 4 * channels {
         channels
     } else {

@@ -1,36 +1,58 @@
--- `narrowing::accepted` meets its contract. Assumes nothing.
-use mathlib.Core.Path.{_≡_}
+-- `narrowing::accepted` meets its contract: its tests are the definition's, in turn. Assumes nothing.
+use mathlib.Core.Path.{_≡_, sym, ap, _∙_}
 use Prim.Native.Nat.{_/_}
 use native.Mathlib.Nat.{mul-le-mul-left}
 use native.Mathlib.Omega.{arith}
 use mir.Facts.{toZ-ofZ}
 use borrow.Author.Needs.{needs}
 use borrow.Author.Tests.{eq-eqb, ne-eqb}
-use Rattle.narrowing.specs.Narrow.{channelsOf}
-use Rattle.narrowing.proofs.Accepting.{most, accepted-by}
+use Rattle.layers.specs.Cells.{natOf, badChannels}
+use Rattle.layers.proofs.Ranges.{channelled, channels-most}
+use Rattle.narrowing.specs.Narrow.{narrowFault, acceptedOf}
 use Rattle.narrowing.proofs.accepted.Statement.{statement}
 use Rattle.narrowing.proofs.accepted.Tie as tie
 
-channels : (c : tie.After-channels-of) → c .channels-of .result ≡ channelsOf (c .before .args .wanted)
-channels c = rw (toZ-ofZ (c .before .fits .wanted)) at (c .channels-of .ensures)
+bad : (c : tie.After-bad-channels) → c .bad-channels .result ≡ badChannels (c .before .args .wanted)
+bad c = c .bad-channels .ensures ∙ ap badChannels (toZ-ofZ (c .before .fits .wanted))
 
-channels-of-requires : tie.Need-channels-of-requires
-channels-of-requires c κs = search needs
+number : (c : tie.After-natural) → c .natural .result ≡ natOf (c .before .before .before .before .args .wanted)
+number c = c .natural .ensures ∙ ap natOf (toZ-ofZ (c .before .before .before .before .fits .wanted))
+
+bad-channels-requires : tie.Need-bad-channels-requires
+bad-channels-requires c κs = search needs
 
 returns : tie.Need-returns
-returns c = rw (← accepted-by, ne-eqb _ _ (c .if1 .taken))
-
-mul-if2 : tie.Need-mul-if2
-mul-if2 c =
-    let s = c .before .before in
-    record { fits = rw (channels (c .before)) (omega (arith, mul-le-mul-left (s .args .input / 4) (most (s .args .wanted)))) }
+unfolding acceptedOf narrowFault
+returns c = rw (← bad (c .before), c .if1 .taken)
 
 returns-2 : tie.Need-returns-2
-returns-2 c = rw (← accepted-by, ← channels (c .before .before), eq-eqb _ _ (c .before .if1 .left), eq-eqb _ _ (c .if2 .taken))
+unfolding acceptedOf narrowFault
+returns-2 c = rw (← bad (c .before .before), c .before .if1 .left, ne-eqb _ _ (c .if2 .taken))
+
+natural-requires : tie.Need-natural-requires
+natural-requires c κs = search needs
+
+mul-if3 : tie.Need-mul-if3
+mul-if3 c =
+    let e = c .before .before in
+    let s = e .before .before in
+    let k = channels-most _ (channelled (s .args .wanted) (sym (bad (e .before)) ∙ e .if1 .left) .kind) in
+    record { fits = rw (number c) (omega (arith, mul-le-mul-left (s .args .input / 4) k)) }
 
 returns-3 : tie.Need-returns-3
-returns-3 c = rw (← accepted-by, ← channels (c .before .before), eq-eqb _ _ (c .before .if1 .left), ne-eqb _ _ (c .if2 .left))
+unfolding acceptedOf narrowFault
+returns-3 c =
+    let n = c .before in
+    let e = n .before .before in
+    rw (← bad (e .before), e .if1 .left, eq-eqb _ _ (n .before .if2 .left), ← number n, eq-eqb _ _ (c .if3 .taken))
+
+returns-4 : tie.Need-returns-4
+unfolding acceptedOf narrowFault
+returns-4 c =
+    let n = c .before in
+    let e = n .before .before in
+    rw (← bad (e .before), e .if1 .left, eq-eqb _ _ (n .before .if2 .left), ← number n, ne-eqb _ _ (c .if3 .left))
 
 pub accepted-spec : {M : Type 1} → statement M
 accepted-spec =
-    tie.close (tie.spec channels-of-requires returns mul-if2 returns-2 returns-3)
+    tie.close (tie.spec bad-channels-requires returns returns-2 natural-requires mul-if3 returns-3 returns-4)

@@ -1,25 +1,25 @@
--- `narrowing::narrow` meets its contract. The loop's invariant: the first i words of the output are those of the narrowed picture, and the rest
--- is as it was. The measure is the words left. Assumes nothing.
+-- `narrowing::narrow` meets its contract: a word is written as it is. The loop's invariant is that of Filling, and the measure the words left.
+-- Assumes nothing.
 use mathlib.Core.List.{map-id}
-use Prim.Native.Nat.{_-_}
+use Prim.Native.Nat.{ℕ, _-_}
 use native.Mathlib.Omega.{arith}
-use mir.Facts.{toZ-ofZ}
-use borrow.Author.Needs.{needs}
 use lib.ListN.{length}
-use Rattle.narrowing.specs.Narrow.{narrowedOf}
-use Rattle.narrowing.proofs.Accepting.{Accepted, accepted, answer-refused, answer-accepted}
-use Rattle.narrowing.proofs.Filling.{Filling, filling-none, filling-more}
+use mir.Facts.{toZ-ofZ}
+use mir.Syntax.{w64}
+use mir.Val.{toZ}
+use borrow.Author.Needs.{needs}
+use Rattle.narrowing.proofs.Filling.{Filling, none-written, answer-refused, word-there, one-more, answer-accepted}
 use Rattle.narrowing.proofs.narrow.Statement.{statement}
 use Rattle.narrowing.proofs.narrow.Tie as tie
 
+abbrev step : ℕ → ℕ
+step w = w
+
 abbrev Inv-loop : tie.InvT-loop
-Inv-loop wanted input output₀ channels i₀ output i = Filling (λ w. w) (narrowedOf channels input) output₀ output i
+Inv-loop wanted input output₀ channels i₀ output i = Filling step (toZ w64 wanted) channels input output₀ output i
 
 abbrev μ-loop : tie.MeasureT-loop
 μ-loop wanted input output₀ channels i₀ output i = length output₀ - i
-
-facts : (c : tie.Else1 Inv-loop μ-loop) → Accepted (c .before .before .before .before .args .wanted) (c .before .accepted .result) (c .before .before .before .before .args .input .now) (c .before .before .before .before .args .output .now)
-facts c = accepted _ _ _ _ _ (toZ-ofZ (c .before .before .before .before .fits .wanted)) (c .before .accepted .ensures) (c .if1 .left)
 
 accepted-requires : tie.Need-accepted-requires Inv-loop μ-loop
 accepted-requires c κs = search needs
@@ -27,13 +27,13 @@ accepted-requires c κs = search needs
 returns : tie.Need-returns Inv-loop μ-loop
 returns c =
     let s = c .before .before .before .before in
-    answer-refused (s .args .wanted) _ _ (s .args .input .now) _ _ (toZ-ofZ (s .fits .wanted)) (c .before .accepted .ensures) (c .if1 .taken)
+    answer-refused _ _ (s .args .input .now) _ (c .before .accepted .ensures) _ (toZ-ofZ (s .fits .wanted)) (c .if1 .taken)
 
 loop-holds : tie.Need-loop-holds Inv-loop μ-loop
-loop-holds c = filling-none _ _ _
+loop-holds c = none-written _ _ _ _ (c .before .accepted .ensures) step (c .if1 .left)
 
 narrowed-at-requires : tie.Need-narrowed-at-requires Inv-loop μ-loop
-narrowed-at-requires c κs = let a = facts (c .before .before) in (a .wanted, omega (arith, a .room, c .before .loop .inv .same))
+narrowed-at-requires c κs = word-there step (c .before .loop .inv) (c .loop-test .taken)
 
 mul-output : tie.Need-mul-output Inv-loop μ-loop
 mul-output c = search needs
@@ -48,9 +48,7 @@ loop-less : tie.Need-loop-less Inv-loop μ-loop
 loop-less c = omega (arith, c .before .before .loop .inv .same)
 
 loop-again : tie.Need-loop-again Inv-loop μ-loop
-loop-again c =
-    let l = c .before .before .loop in
-    filling-more _ _ _ (l .output) (l .i) _ (facts (c .before .before .before) .whole) (l .inv) (c .before .loop-test .taken) (c .narrowed-at .ensures)
+loop-again c = one-more step (c .before .before .loop .inv) (c .before .loop-test .taken) (c .narrowed-at .ensures)
 
 same-length : tie.Need-same-length Inv-loop μ-loop
 same-length c = c .before .loop .inv .same
@@ -58,7 +56,7 @@ same-length c = c .before .loop .inv .same
 returns-2 : tie.Need-returns-2 Inv-loop μ-loop
 returns-2 c =
     let s = c .before .before .before .before .before .before in
-    rw map-id at (answer-accepted (λ w. w) (s .args .wanted) _ (s .args .input .now) _ _ (c .before .loop .i) (facts (c .before .before)) (c .before .loop .inv) (c .loop-test .left))
+    rw map-id at (answer-accepted step (c .before .loop .inv) (toZ-ofZ (s .fits .wanted)) (c .loop-test .left))
 
 pub narrow-spec : {M : Type 1} → statement M
 narrow-spec =
