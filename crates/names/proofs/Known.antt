@@ -2,14 +2,11 @@
 use mathlib.Core.Path.{_≡_, refl, ap, _∙_}
 use mathlib.Core.Bool.{Bool, true, false, cond}
 use mathlib.Core.List.{List, [], _∷_, map}
-use Prim.Native.Nat.{ℕ, zero, suc, _+_, _-_, _<_, _≤_}
+use Prim.Native.Nat.{ℕ, suc, _+_, _<_}
 use native.Mathlib.Nat.{add-zero, add-suc, suc-add, zero-add}
 use native.Mathlib.Omega.{arith}
-use lib.Dec.{eqb, eqb→eq}
-use lib.ListN.{length, getD, take, drop}
-use lib.Seq.{getD-take, getD-drop}
-use Rattle.laws.proofs.Tables.{at-each}
-use Rattle.operators.specs.Operators.{count, numberOf}
+use lib.ListN.{length, getD}
+use Rattle.operators.specs.Operators.{numberOf}
 use Rattle.names.specs.Names.{Entry, entries, words, numbers, same, lookup}
 use Rattle.names.specs.Packed.{placeFrom}
 use Rattle.names.specs.declared.Named.{Named}
@@ -52,17 +49,3 @@ place-below x (w ∷ ws) i k e =
     chosen-below (same x w) i k (i + suc (length ws)) (placeFrom (suc i) x ws) (omega arith)
     (λ q. omega (arith, place-below x ws (suc i) k q))
     e
-
-pub numbers-count : length numbers ≡ 83
-unfolding numbers entries
-numbers-count = refl
-
--- the first numbers, those of the 70 names, are their own places
-pub own-number : (k : ℕ) → k < count → k ≡ getD numbers k 0
-unfolding numbers entries
-own-number k h =
-    eqb→eq k (getD (take count numbers) k 0) (at-each eqb 0 (take count numbers) tt k h) ∙ getD-take count numbers k 0 h
-
--- the numbers of the aliases follow
-pub alias-number : (k : ℕ) → count ≤ k → getD (drop count numbers) (k - count) 0 ≡ getD numbers k 0
-alias-number k h = let e : count + (k - count) ≡ k = omega arith in rw (getD-drop, e)

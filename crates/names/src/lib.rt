@@ -3,9 +3,8 @@
 ghost use mathlib.Core.Path.{_≡_};
 ghost use Prim.Native.Nat.{_≤_, _<_};
 ghost use lib.ListN.{length, getD};
-ghost use Rattle.names.specs.Names.{isKept, lower, keyOf, same, numbers, fromName};
+ghost use Rattle.names.specs.Names.{isKept, lower, keyOf, same, fromName};
 ghost use Rattle.names.specs.Packed.{total, cut, placeFrom};
-use operators::CompositeOp;
 
 // What a name names: an operator, by its number; or nothing (fault 3, OPERATOR).
 pub enum Named {
@@ -18,9 +17,6 @@ enum Place {
     At(usize),
     Nowhere,
 }
-
-// The operators' numbers of the 13 aliases; a name's number is its place.
-const ALIASES: [u64; 13] = [0, 1, 2, 3, 17, 17, 18, 23, 25, 57, 45, 27, 28];
 
 // Whether a byte counts: '-', '_' and space do not.
 fn is_kept(b: u8) -> bool
@@ -93,19 +89,7 @@ fn find(s: &[u8], names: &[u8], lengths: &[u8]) -> Place
     Place::Nowhere
 }
 
-// The number of the operator at a place of the list.
-fn number_at(k: usize) -> u64
-    requires { ⌜ k < length numbers ⌝ }
-    ensures { λ r. ⌜ r ≡ getD numbers k 0 ⌝ }
-{
-    let own = CompositeOp::COUNT as usize;
-    if k < own {
-        return k as u64;
-    }
-    ALIASES[k - own]
-}
-
-// What a text names. The 70 names and the 13 aliases stand end to end, each line of them beside a line of their lengths.
+// What a text names. The 70 names and the 13 aliases stand end to end, beside their lengths and their operators' numbers, line by line.
 pub fn from_name(s: &[u8]) -> Named
     ensures { λ r. ⌜ r ≡ fromName (now (s .entry)) ⌝ }
 {
@@ -126,8 +110,16 @@ pub fn from_name(s: &[u8]) -> Named
         \x08\x08\x07\x09\x08\x09\x08\x0b\x0a\
         \x09\x0a\x07\x09\x08\x07\x04\x09\x08\
         \x07\x05\x06\x07\x04\x07\x04\x05\x06\x0b\x07\x03\x08";
+    let numbers = b"\x00\x01\x02\x03\x04\x05\x06\x07\x08\x09\x0a\x0b\x0c\x0d\
+        \x0e\x0f\x10\x11\x12\x13\x14\x15\x16\x17\x18\x19\
+        \x1a\x1b\x1c\x1d\x1e\x1f\x20\
+        \x21\x22\x23\x24\x25\x26\x27\x28\x29\x2a\
+        \x2b\x2c\x2d\x2e\x2f\x30\x31\x32\x33\
+        \x34\x35\x36\x37\x38\x39\x3a\x3b\x3c\
+        \x3d\x3e\x3f\x40\x41\x42\x43\x44\x45\
+        \x00\x01\x02\x03\x11\x11\x12\x17\x19\x39\x2d\x1b\x1c";
     match find(s, names, lengths) {
-        Place::At(k) => Named::Operator(number_at(k)),
+        Place::At(k) => Named::Operator(wide(numbers[k]) as u64),
         Place::Nowhere => Named::Unknown,
     }
 }

@@ -1,5 +1,5 @@
--- `names::from_name` meets its contract: cut at the lengths, the bytes are the words of the list, so that the place that the search
--- answers is that of the entry. Assumes nothing.
+-- `names::from_name` meets its contract: cut at the lengths, the bytes are the words of the list, and the numbers are its operators', so that the
+-- place that the search answers is that of the entry. Assumes nothing.
 use mathlib.Core.Path.{_≡_, sym, ap, _∙_}
 use borrow.Author.Needs.{needs}
 use Rattle.names.specs.Names.{entries, words, numbers, keyOf, fromName}
@@ -9,15 +9,18 @@ use Rattle.names.proofs.Known.{atPlace, place-known, place-below}
 use Rattle.names.proofs.from_name.Statement.{statement}
 use Rattle.names.proofs.from_name.Tie as tie
 
+abbrev start : tie.After-find → tie.Start
+start c = c .before .before .before .before .before .before .before
+
 -- what the search answered
-answered : (c : tie.After-find) → c .find .result ≡ placeFrom 0 (keyOf (c .before .before .before .before .before .before .args .s .now)) (words entries)
+answered : (c : tie.After-find) → c .find .result ≡ placeFrom 0 (keyOf (start c .args .s .now)) (words entries)
 unfolding entries
 answered c = c .find .ensures
 
 -- .. and what it says
-known : (c : tie.After-find) → atPlace (c .find .result) ≡ fromName (c .before .before .before .before .before .before .args .s .now)
+known : (c : tie.After-find) → atPlace (c .find .result) ≡ fromName (start c .args .s .now)
 unfolding fromName
-known c = ap atPlace (answered c) ∙ place-known (keyOf (c .before .before .before .before .before .before .args .s .now))
+known c = ap atPlace (answered c) ∙ place-known (keyOf (start c .args .s .now))
 
 find-requires : tie.Need-find-requires
 find-requires c κs = search needs
@@ -25,19 +28,23 @@ find-requires c κs = search needs
 enum-known-k : tie.Need-enum-known-k
 enum-known-k c = search needs
 
-number-at-requires : tie.Need-number-at-requires
-unfolding entries numbers
-number-at-requires c κs =
+element-copy-out-wide : tie.Need-element-copy-out-wide
+unfolding entries
+element-copy-out-wide c =
     let a = c .before .before .before in
-    place-below (keyOf (a .before .before .before .before .before .before .args .s .now)) (words entries) 0 _ (sym (answered a) ∙ c .before .k .given .1)
+    place-below (keyOf (start a .args .s .now)) (words entries) 0 _ (sym (answered a) ∙ c .before .k .given .1)
+
+wide-requires : tie.Need-wide-requires
+wide-requires c κs = search needs
 
 enum-told : tie.Need-enum-told
 enum-told c = search needs
 
 returns : tie.Need-returns
+unfolding entries numbers
 returns c =
-    let a = c .before .before .before .before in
-    ap Operator (c .number-at .ensures) ∙ sym (ap atPlace (c .before .before .k .given .1)) ∙ known a
+    let k = c .before .before .before in
+    ap Operator (c .wide .ensures) ∙ sym (ap atPlace (k .k .given .1)) ∙ known (k .before .before)
 
 returns-2 : tie.Need-returns-2
 returns-2 c = sym (ap atPlace (c .enum-told .given .1)) ∙ known (c .before .before)
@@ -48,7 +55,8 @@ from-name-spec =
     (tie.spec
     find-requires
     enum-known-k
-    number-at-requires
+    element-copy-out-wide
+    wide-requires
     enum-told
     returns
     returns-2)
