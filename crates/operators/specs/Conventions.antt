@@ -2,8 +2,7 @@
 -- Document 01: "`convention` decides division by the union alpha, even where comments group otherwise".
 use mathlib.Core.Bool.{cond}
 use mathlib.Core.List.{List, [], _∷_}
-use Prim.Native.Nat.{ℕ}
-use Rattle.operators.specs.Operators.{operators, onNth, isOneOf}
+use Rattle.operators.specs.Operators.{isOneOf}
 use Rattle.operators.specs.declared.CompositeOp.{CompositeOp}
 use Rattle.operators.specs.declared.CompositeOp.the-variants as O
 use Rattle.operators.specs.declared.Convention.{Convention}
@@ -43,7 +42,3 @@ convention o =
     (cond (isOneOf onPremult o) OnPremult
     (cond (isOneOf premultOnly o) PremultOnly
     Premult))
-
--- the convention of the operator with a number
-abbrev pub conventionAt : ℕ → Convention
-conventionAt n = onNth Premult convention operators n

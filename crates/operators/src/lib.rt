@@ -1,9 +1,8 @@
 // The 70 operators of `CompositeOp` (composite.rs, 46 to 383): their numbers, what a number names, their conventions.
-// The contracts cite specs/Operators, specs/Numbers and specs/Conventions.
+// The contracts cite specs/Operators and specs/Numbers; specs/Conventions is for the crates above.
 ghost use mathlib.Core.Path.{_≡_};
 ghost use Rattle.operators.specs.Operators.{numberOf, opAt, isMap};
 ghost use Rattle.operators.specs.Numbers.{opOf};
-ghost use Rattle.operators.specs.Conventions.{convention};
 
 mod table;
 
@@ -81,7 +80,7 @@ pub enum CompositeOp {
     Modulate,
 }
 
-// How an operator combines its blend with the alphas (composite.rs, 909 to 914).
+// How an operator combines its blend with the alphas (composite.rs, 909 to 914); specs/Conventions says which does how.
 pub enum Convention {
     Premult,
     Divided,
@@ -125,8 +124,7 @@ impl CompositeOp {
     pub fn number(self) -> u64
         ensures { λ r. ⌜ r ≡ numberOf self ⌝ }
     {
-        let row = table::row_of(self);
-        row.0
+        table::place(self)
     }
 
     // The operator at a place of `ALL`; past its end, Over.
@@ -157,13 +155,6 @@ impl CompositeOp {
             return Numbered::Curve;
         }
         Numbered::Op(Self::at(k))
-    }
-
-    pub fn convention(self) -> Convention
-        ensures { λ r. ⌜ r ≡ convention self ⌝ }
-    {
-        let row = table::row_of(self);
-        row.1
     }
 
     // Whether the operator reads the source as a map rather than as a picture to blend.
