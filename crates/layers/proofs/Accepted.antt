@@ -1,8 +1,8 @@
 -- What is known of a job's inputs that have no fault, and of their layers, for the crates above. Sides and offsets are bounded
 -- by the slack of the crate places, not by the job's own limits. Assumes nothing.
-use mathlib.Core.Path.{_≡_, refl, sym, _∙_}
+use mathlib.Core.Path.{_≡_, refl}
 use mathlib.Core.Bool.{Bool, true, false, cond, not, _||_}
-use mathlib.Core.List.{List}
+use mathlib.Core.List.{List, [], _∷_}
 use Prim.Native.Nat.{ℕ, zero, suc, _+_, _*_, _<_, _≤_}
 use native.Mathlib.Nat.{zero-add, add-zero, add-suc, suc-add, le-of-suc-le-suc}
 use native.Mathlib.Omega.{arith}
@@ -10,17 +10,16 @@ use lib.Dec.{eqb, ltb}
 use lib.IntN.{ℤ, pos, negsuc, negℤ}
 use lib.ListN.{length}
 use lib.Signed.{ltZ, mag}
-use borrow.Author.Tests.{eqb-true, eq-eqb, ltb-false}
-use Rattle.operators.specs.Numbers.{opOf, opFault}
+use borrow.Author.Tests.{eqb-true, eqb-false, ltb-false}
 use Rattle.places.specs.Bounds.{slack, Measured}
 use Rattle.places.specs.Gravities.{lastGravity}
 use Rattle.layers.specs.declared.Layer.{Layer}
 use Rattle.layers.specs.declared.Verdict.{Verdict}
 use Rattle.layers.specs.Cells.{cellOf, natOf, outsideZ, badShape, areaOf, Channels}
-use Rattle.layers.specs.Faults.{orElse, faultIf, badOffset, badPlacing, badSource, layerFault}
+use Rattle.layers.specs.Faults.{firstOf, faultIf, badOffset, badPlacing, badSource, layerChecks, layerFault}
 use Rattle.layers.specs.Inputs.{Inputs, verdict, badStack, badDst, rowsFault, jobFault}
 use Rattle.layers.specs.Layers.{layerAt}
-use Rattle.layers.specs.Limits.{columns, argWords, mostLayers, mostOffset, mostFlags, atOperator, atGravity, atRight, atDown, atFlags, atFirst, atWidth, atHeight, atChannels, atCount}
+use Rattle.layers.specs.Limits.{columns, argWords, mostLayers, mostOffset, atOperator, atGravity, atRight, atDown, atFirst, atWidth, atHeight, atChannels, atCount}
 use Rattle.layers.proofs.Carried.{Carried, carried}
 use Rattle.layers.proofs.Ranges.{Ranged, ranged, Shaped, shaped, both-fail, not-fails}
 
@@ -46,13 +45,18 @@ pub record Accepted (i : Inputs) : Type 0 where
 
 -- ---- no fault among several
 
-by-first : (t : Bool) (a b : ℕ) → eqb a 0 ≡ t → cond t b a ≡ 0 → (a ≡ 0) × (b ≡ 0)
-by-first true a b e h = (eqb-true a 0 e, h)
-by-first false a b e h = let x : true ≡ false = sym (eq-eqb a 0 h) ∙ e in let y : _≡_ {A = ℕ} 0 1 = cc in absurd (omega arith)
+abbrev Each : List ℕ → Type 0
+Each [] = Unit
+Each (f ∷ fs) = (f ≡ 0) × Each fs
 
--- no fault in two is none in each
-none : (a b : ℕ) → orElse a b ≡ 0 → (a ≡ 0) × (b ≡ 0)
-none a b h = by-first (eqb a 0) a b refl h
+-- no fault in a list of checks is none in each
+none : (fs : List ℕ) → firstOf fs ≡ 0 → Each fs
+none [] h = tt
+none (f ∷ fs) h = by (eqb f 0) refl h (none fs)
+  where
+    by : (t : Bool) → eqb f 0 ≡ t → cond t (firstOf fs) f ≡ 0 → (firstOf fs ≡ 0 → Each fs) → Each (f ∷ fs)
+    by true e h g = (eqb-true f 0 e, g h)
+    by false e h g = absurd (eqb-false f 0 e h)
 
 -- no fault where a test would give one is a test that fails
 passed : (t : Bool) (n : ℕ) → faultIf t (suc n) ≡ 0 → t ≡ false
@@ -88,21 +92,18 @@ module _ (table : List ℤ) (args : List ℕ) (samples k : ℕ) where
   pub good-layer : layerFault table samples k ≡ 0 → GoodLayer samples (layerAt table args k)
   unfolding layerFault layerAt
   good-layer e =
-      let a = none (opFault (opOf (cellOf table k atOperator))) _ e in
-      let b = none (faultIf (badPlacing table k) 5) _ (a .1) in
-      let f = none (faultIf (outsideZ (pos 0) (pos mostFlags) (cellOf table k atFlags)) 6) _ (b .1) in
-      let g = none (faultIf (badSource table samples k) 7) _ (f .1) in
-      let p = placed (passed (badPlacing table k) 4 (b .0)) in
-      let s = sourced (passed (badSource table samples k) 6 (g .0)) in
+      let n = none (layerChecks table samples k) e in
+      let p = placed (passed (badPlacing table k) 4 (n .1 .0)) in
+      let s = sourced (passed (badSource table samples k) 6 (n .1 .1 .1 .0)) in
       record {
-        op = carried (cellOf table k atOperator) (a .0);
+        op = carried (cellOf table k atOperator) (n .0);
         right = p .0;
         down = p .1;
         width = s .0 .wide .most;
         height = s .0 .high .most;
         channels = s .0 .deep .kind;
         held = s .1;
-        count = ranged 0 argWords (cellOf table k atCount) (passed (outsideZ (pos 0) (pos argWords) (cellOf table k atCount)) 7 (g .1)) .most;
+        count = ranged 0 argWords (cellOf table k atCount) (passed (outsideZ (pos 0) (pos argWords) (cellOf table k atCount)) 7 (n .1 .1 .1 .1 .0)) .most;
       }
 
 -- ---- the rows
@@ -111,7 +112,7 @@ module _ (table : List ℤ) (samples : ℕ) where
   -- of the first fault, where it is none
   first-of : (t : Bool) (f k : ℕ) (v : Verdict) → eqb f 0 ≡ t → cond t v (verdict f k) .number ≡ 0 → (f ≡ 0) × (v .number ≡ 0)
   first-of true f k v e h = (eqb-true f 0 e, h)
-  first-of false f k v e h = let x : true ≡ false = sym (eq-eqb f 0 h) ∙ e in let y : _≡_ {A = ℕ} 0 1 = cc in absurd (omega arith)
+  first-of false f k v e h = absurd (eqb-false f 0 e h)
 
   found-none : (n k : ℕ) → rowsFault table samples k (suc n) .number ≡ 0 → (layerFault table samples k ≡ 0) × (rowsFault table samples (suc k) n .number ≡ 0)
   unfolding rowsFault

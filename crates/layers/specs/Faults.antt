@@ -1,7 +1,7 @@
 -- The faults of a layer's row, 3 to 8 of document 01's table, in exact integers: the number of the first one, 0 where there
--- is none. A further check of the row is one more line at the end of `layerFault`.
+-- is none. A further check of the row is one more line at the end of `layerChecks`.
 use mathlib.Core.Bool.{Bool, cond, _||_}
-use mathlib.Core.List.{List}
+use mathlib.Core.List.{List, [], _∷_}
 use Prim.Native.Nat.{ℕ, _+_}
 use lib.Dec.{eqb, ltb}
 use lib.IntN.{ℤ, pos, negℤ}
@@ -11,9 +11,10 @@ use Rattle.places.specs.Gravities.{lastGravity}
 use Rattle.layers.specs.Cells.{cellOf, natOf, outsideZ, badShape, areaOf}
 use Rattle.layers.specs.Limits.{mostOffset, mostFlags, argWords, atOperator, atGravity, atRight, atDown, atFlags, atFirst, atWidth, atHeight, atChannels, atCount}
 
--- the first of two faults; 0 is none
-abbrev pub orElse : ℕ → ℕ → ℕ
-orElse a b = cond (eqb a 0) b a
+-- the first fault of a list of checks; 0 is none
+abbrev pub firstOf : List ℕ → ℕ
+firstOf [] = 0
+firstOf (f ∷ fs) = cond (eqb f 0) (firstOf fs) f
 
 -- a fault where a test holds
 abbrev pub faultIf : Bool → ℕ → ℕ
@@ -38,11 +39,15 @@ badSource table samples k =
     || ltb samples
     (natOf (cellOf table k atFirst) + areaOf (cellOf table k atWidth) (cellOf table k atHeight) (cellOf table k atChannels))
 
--- row k of the table, for the number of the source samples
+-- the checks of row k, for the number of the source samples
+abbrev pub layerChecks : List ℤ → ℕ → ℕ → List ℕ
+layerChecks table samples k =
+    opFault (opOf (cellOf table k atOperator))
+    ∷ faultIf (badPlacing table k) 5
+    ∷ faultIf (outsideZ (pos 0) (pos mostFlags) (cellOf table k atFlags)) 6
+    ∷ faultIf (badSource table samples k) 7
+    ∷ faultIf (outsideZ (pos 0) (pos argWords) (cellOf table k atCount)) 8
+    ∷ []
+
 unfoldable pub layerFault : List ℤ → ℕ → ℕ → ℕ
-layerFault table samples k =
-    orElse (opFault (opOf (cellOf table k atOperator)))
-    (orElse (faultIf (badPlacing table k) 5)
-    (orElse (faultIf (outsideZ (pos 0) (pos mostFlags) (cellOf table k atFlags)) 6)
-    (orElse (faultIf (badSource table samples k) 7)
-    (faultIf (outsideZ (pos 0) (pos argWords) (cellOf table k atCount)) 8))))
+layerFault table samples k = firstOf (layerChecks table samples k)
