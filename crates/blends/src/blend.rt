@@ -1,23 +1,11 @@
 // The blend functions that branch: s is one colour channel of the source, d that of the destination.
 ghost use mathlib.Core.Path.{_≡_};
-ghost use Rattle.float_steps.specs.Notation.{_⊕_, _⊖_, _⊗_, f1, f2};
+ghost use Rattle.float_steps.specs.Notation.{_⊖_, f1};
 ghost use Rattle.float_steps.specs.Sign.{absOf};
 ghost use Rattle.blends.specs.Blends.{hardLightOf, curveOf, softLightOf, colorDodgeOf, colorBurnOf, divideOf, vividLightOf, pinLightOf, hardMixOf, freezeOf, reflectOf};
 use float_steps::order;
 use float_steps::root;
 use float_steps::sign;
-
-pub fn difference(s: f32, d: f32) -> f32
-    ensures { λ r. ⌜ r ≡ absOf (s ⊖ d) ⌝ }
-{
-    sign::abs(s - d)
-}
-
-pub fn exclusion(s: f32, d: f32) -> f32
-    ensures { λ r. ⌜ r ≡ s ⊕ d ⊖ f2 ⊗ s ⊗ d ⌝ }
-{
-    s + d - 2.0 * s * d
-}
 
 pub fn negate(s: f32, d: f32) -> f32
     ensures { λ r. ⌜ r ≡ f1 ⊖ absOf (f1 ⊖ s ⊖ d) ⌝ }

@@ -8,6 +8,7 @@ use Rattle.operators.specs.Operators.{operators, onNth}
 use Rattle.operators.specs.Conventions.{convention}
 use Rattle.operators.specs.declared.CompositeOp.{CompositeOp}
 use Rattle.operators.specs.declared.CompositeOp.the-variants as O
+use Rattle.operators.specs.declared.Convention.{Convention}
 use Rattle.float_steps.specs.Notation.{_⊕_, _⊖_, _⊗_, _⊘_, lit, f0, f1, f2, half}
 use Rattle.float_steps.specs.Order.{smallerOf, unitOf}
 use Rattle.float_steps.specs.Remainder.{wrapOf}
@@ -16,7 +17,7 @@ use Rattle.float_steps.specs.Sign.{squareOf}
 use Rattle.pictures.specs.declared.Rgba.{Rgba}
 use Rattle.blends.specs.declared.Rgb.{Rgb}
 use Rattle.blends.specs.declared.Hsl.{Hsl}
-use Rattle.blends.specs.Hsl.{rgbOf, hslOf, rgbToHslOf, hslToRgbOf}
+use Rattle.blends.specs.Hsl.{hslOf, rgbToHslOf, hslToRgbOf}
 use Rattle.pixels.specs.declared.Params.{Params}
 use Rattle.pixels.specs.Blend.{blendOf}
 use Rattle.pixels.specs.Channel.{overAlphaOf, channelOf, overChannel, atopChannel, xorChannel, plusChannel, colouredChannel, withinFuzz, thresholdChannel}
@@ -108,18 +109,12 @@ withColour c a = rgbaOf (c .r) (c .g) (c .b) a
 abbrev pub unused : Params
 unused = record { a = f0; b = f0; c = f0; d = f0 }
 
--- the channels b, already blended, under the convention's step f, with the union alpha
-abbrev pub paintedBy : (Float → Float → Float → Float → Float → Float) → Rgb → Rgba → Rgba → Rgba
-paintedBy f b s d =
-    rgbaOf (f (b .r) (s .r) (d .r) (s .a) (d .a)) (f (b .g) (s .g) (d .g) (s .a) (d .a)) (f (b .b) (s .b) (d .b) (s .a) (d .a)) (overAlphaOf (s .a) (d .a))
+-- its colours under a convention, beside an alpha of its own
+abbrev pub underConvention : Convention → CompositeOp → Params → Rgba → Rgba → Float → Rgba
+underConvention by op p s d a = onColours (λ x y. channelOf by (blendOf op p) x y (s .a) (d .a)) s d a
 
--- a colour already multiplied by alpha
-abbrev pub weighedOf : Rgba → Rgb
-weighedOf p = rgbOf (p .r ⊗ p .a) (p .g ⊗ p .a) (p .b ⊗ p .a)
-
--- its colours, beside an alpha of its own
 abbrev pub mathematicalBy : CompositeOp → Params → Rgba → Rgba → Float → Rgba
-mathematicalBy op p s d a = onColours (λ x y. channelOf (convention op) (blendOf op p) x y (s .a) (d .a)) s d a
+mathematicalBy op p s d a = underConvention (convention op) op p s d a
 
 abbrev pub mathematicalOf : CompositeOp → Params → Rgba → Rgba → Rgba
 mathematicalOf op p s d = mathematicalBy op p s d (overAlphaOf (s .a) (d .a))
