@@ -67,11 +67,9 @@ grayOf v a = rgbaOf v v v a
 abbrev pub rmseOf : Rgba → Rgba → Float
 rmseOf s d = sqrtOf ((squareOf (s .r ⊖ d .r) ⊕ squareOf (s .g ⊖ d .g) ⊕ squareOf (s .b ⊖ d .b)) ⊘ lit 0x4040_0000)
 
-unfoldable pub darkenIntensityOf : Rgba → Rgba → Rgba
-darkenIntensityOf s d = cond (lt (intensityOf s ⊗ s .a) (intensityOf d ⊗ d .a)) s d
-
-unfoldable pub lightenIntensityOf : Rgba → Rgba → Rgba
-lightenIntensityOf s d = cond (lt (intensityOf d ⊗ d .a) (intensityOf s ⊗ s .a)) s d
+-- DarkenIntensity and LightenIntensity, lines 729 to 742: s where x is darker than y, else d
+unfoldable pub whereDarker : Rgba → Rgba → Rgba → Rgba → Rgba
+whereDarker x y s d = cond (lt (intensityOf x ⊗ x .a) (intensityOf y ⊗ y .a)) s d
 
 -- Hue, Saturate, Luminize and Colorize, lines 743 to 763
 abbrev pub hslAt : Rgba → Hsl
@@ -170,8 +168,8 @@ pixelOf O.Mathematics p s d = mathematicalOf O.Mathematics p s d
 pixelOf O.Blend p s d = onColours (λ x y. x ⊗ p .a ⊕ y ⊗ p .b) s d (smallerOf (s .a ⊗ p .a ⊕ d .a ⊗ p .b) f1)
 pixelOf O.Dissolve p s d = overOf (withAlpha s (smallerOf (s .a ⊗ p .a) f1)) (withAlpha d (smallerOf (d .a ⊗ p .b) f1))
 pixelOf O.Rmse p s d = grayOf (rmseOf s d) (overAlphaOf (s .a) (d .a))
-pixelOf O.DarkenIntensity p s d = darkenIntensityOf s d
-pixelOf O.LightenIntensity p s d = lightenIntensityOf s d
+pixelOf O.DarkenIntensity p s d = whereDarker s d s d
+pixelOf O.LightenIntensity p s d = whereDarker d s s d
 pixelOf O.Hue p s d = colouredOf (hslOf (hslAt s .h) (hslAt d .s) (hslAt d .l)) s d
 pixelOf O.Saturate p s d = colouredOf (hslOf (hslAt d .h) (hslAt s .s) (hslAt d .l)) s d
 pixelOf O.Luminize p s d = colouredOf (hslOf (hslAt d .h) (hslAt d .s) (hslAt s .l)) s d

@@ -1,8 +1,9 @@
 // The operators on hue, saturation, lightness and intensity, and those that copy or compare single channels (composite.rs lines 725 to 812).
 ghost use mathlib.Core.Path.{_≡_};
+ghost use Rattle.blends.specs.Hsl.{hslOf};
 ghost use Rattle.operators.specs.declared.CompositeOp.the-variants as O;
 ghost use Rattle.pixels.specs.Channel.{colouredChannel, withinFuzz, thresholdChannel};
-ghost use Rattle.pixels.specs.Pixel.{pixelOf, intensityOf, grayOf, rmseOf, hslAt, colouredBy, colouredOf, matches, scaledOf, modulatedBy, withColour, unused};
+ghost use Rattle.pixels.specs.Pixel.{pixelOf, intensityOf, grayOf, rmseOf, whereDarker, hslAt, colouredBy, colouredOf, matches, scaledOf, modulatedBy, withColour, unused};
 use crate::Params;
 use crate::conventions::over_alpha;
 use crate::conventions::over_union;
@@ -47,19 +48,11 @@ pub fn rmse(s: Rgba, d: Rgba) -> Rgba
     gray(root_mean_square(s, d), over_alpha(s.a, d.a))
 }
 
-pub fn darken_intensity(s: Rgba, d: Rgba) -> Rgba
-    ensures { λ r. ⌜ r ≡ pixelOf O.DarkenIntensity unused s d ⌝ }
+// s where x is darker than y, each by its coverage, else d: DarkenIntensity, and LightenIntensity with x and y exchanged.
+pub fn where_darker(x: Rgba, y: Rgba, s: Rgba, d: Rgba) -> Rgba
+    ensures { λ r. ⌜ r ≡ whereDarker x y s d ⌝ }
 {
-    if intensity(s) * s.a < intensity(d) * d.a {
-        return s;
-    }
-    d
-}
-
-pub fn lighten_intensity(s: Rgba, d: Rgba) -> Rgba
-    ensures { λ r. ⌜ r ≡ pixelOf O.LightenIntensity unused s d ⌝ }
-{
-    if intensity(s) * s.a > intensity(d) * d.a {
+    if intensity(x) * x.a < intensity(y) * y.a {
         return s;
     }
     d
@@ -89,62 +82,19 @@ fn coloured_by(c: Rgb, s: Rgba, d: Rgba) -> Rgba
     }
 }
 
-fn coloured(c: Hsl, s: Rgba, d: Rgba) -> Rgba
-    ensures { λ r. ⌜ r ≡ colouredOf c s d ⌝ }
+// Hue, Saturate, Luminize and Colorize: the hue of one pixel, the saturation of another and the lightness of a third, over the destination.
+pub fn coloured(h: Rgba, sat: Rgba, l: Rgba, s: Rgba, d: Rgba) -> Rgba
+    ensures { λ r. ⌜ r ≡ colouredOf (hslOf (hslAt h .h) (hslAt sat .s) (hslAt l .l)) s d ⌝ }
 {
+    let x = hsl_at(h);
+    let y = hsl_at(sat);
+    let z = hsl_at(l);
+    let c = Hsl {
+        h: x.h,
+        s: y.s,
+        l: z.l,
+    };
     coloured_by(hsl_to_rgb(c), s, d)
-}
-
-pub fn hue(s: Rgba, d: Rgba) -> Rgba
-    ensures { λ r. ⌜ r ≡ pixelOf O.Hue unused s d ⌝ }
-{
-    let x = hsl_at(s);
-    let y = hsl_at(d);
-    let c = Hsl {
-        h: x.h,
-        s: y.s,
-        l: y.l,
-    };
-    coloured(c, s, d)
-}
-
-pub fn saturate(s: Rgba, d: Rgba) -> Rgba
-    ensures { λ r. ⌜ r ≡ pixelOf O.Saturate unused s d ⌝ }
-{
-    let x = hsl_at(s);
-    let y = hsl_at(d);
-    let c = Hsl {
-        h: y.h,
-        s: x.s,
-        l: y.l,
-    };
-    coloured(c, s, d)
-}
-
-pub fn luminize(s: Rgba, d: Rgba) -> Rgba
-    ensures { λ r. ⌜ r ≡ pixelOf O.Luminize unused s d ⌝ }
-{
-    let x = hsl_at(s);
-    let y = hsl_at(d);
-    let c = Hsl {
-        h: y.h,
-        s: y.s,
-        l: x.l,
-    };
-    coloured(c, s, d)
-}
-
-pub fn colorize(s: Rgba, d: Rgba) -> Rgba
-    ensures { λ r. ⌜ r ≡ pixelOf O.Colorize unused s d ⌝ }
-{
-    let x = hsl_at(s);
-    let y = hsl_at(d);
-    let c = Hsl {
-        h: x.h,
-        s: x.s,
-        l: y.l,
-    };
-    coloured(c, s, d)
 }
 
 // CopyCyan on an RGB picture too.

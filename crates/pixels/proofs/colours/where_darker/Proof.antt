@@ -1,9 +1,9 @@
--- `pixels::colours::lighten_intensity` meets its contract. Assumes nothing.
+-- `pixels::colours::where_darker` meets its contract. Assumes nothing.
 use Rattle.float_steps.proofs.Choice.{yes, no}
-use Rattle.pixels.specs.Pixel.{lightenIntensityOf}
+use Rattle.pixels.specs.Pixel.{whereDarker}
 use borrow.Author.Needs.{needs}
-use Rattle.pixels.proofs.colours.lighten_intensity.Statement.{statement}
-use Rattle.pixels.proofs.colours.lighten_intensity.Tie as tie
+use Rattle.pixels.proofs.colours.where_darker.Statement.{statement}
+use Rattle.pixels.proofs.colours.where_darker.Tie as tie
 
 intensity-requires : tie.Need-intensity-requires
 intensity-requires c κs = search needs
@@ -12,13 +12,13 @@ intensity-requires-2 : tie.Need-intensity-requires-2
 intensity-requires-2 c κs = search needs
 
 returns : tie.Need-returns
-unfolding lightenIntensityOf
+unfolding whereDarker
 returns c = rw (← c .before .before .before .before .intensity .ensures, ← c .before .before .intensity2 .ensures) (yes _ _ (c .if1 .taken))
 
 returns-2 : tie.Need-returns-2
-unfolding lightenIntensityOf
+unfolding whereDarker
 returns-2 c = rw (← c .before .before .before .before .intensity .ensures, ← c .before .before .intensity2 .ensures) (no _ _ (c .if1 .left))
 
-pub lighten-intensity-spec : {M : Type 1} → statement M
-lighten-intensity-spec =
+pub where-darker-spec : {M : Type 1} → statement M
+where-darker-spec =
     tie.close (tie.spec intensity-requires intensity-requires-2 returns returns-2)
