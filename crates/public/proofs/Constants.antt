@@ -1,6 +1,6 @@
 -- 0, 1, 2 and a half in the laws of IEEE arithmetic, on binary32. Assumes nothing.
 use mathlib.Core.Path.{_≡_, refl, sym, ap, _∙_, subst}
-use mathlib.Core.Bool.{Bool, false, _||_}
+use mathlib.Core.Bool.{Bool, true, false, _||_}
 use lib.IntN.{pos, negsuc}
 use lib.Dec.{T}
 use lib.Ieee.{Float, fin, binary32, ofBits, sub, fits, lt, le, eq}
@@ -10,8 +10,8 @@ use Rattle.ieee_laws.specs.Same.{plain, Same, Zero}
 use Rattle.ieee_laws.specs.Size.{one, two}
 use Rattle.ieee_laws.proofs.Commute.{mul-commutes}
 use Rattle.ieee_laws.proofs.One.{times-one, over-one}
-use Rattle.ieee_laws.proofs.Zero.{times-zero, plus-zero, zero-plus, minus-zero, of-plain}
-use Rattle.ieee_laws.proofs.Order.{eq-same}
+use Rattle.ieee_laws.proofs.Zero.{times-zero, plus-zero, minus-zero, of-plain}
+use Rattle.ieee_laws.proofs.Order.{eq-same, eq-zeros}
 use Rattle.ieee_laws.proofs.Clamp.{zero-fits, one-fits}
 
 one-is : f1 ≡ one
@@ -42,12 +42,9 @@ divided-by-one x h = ap (λ (y : Float). x ⊘ y) one-is ∙ over-one binary32 x
 pub by-zero : (x : Float) → T (finite x) → Zero (x ⊗ f0)
 by-zero x h = times-zero binary32 x f0 h zero-is
 
--- x ⊕ y where y is a zero, and where x is
+-- x ⊕ y where y is a zero
 pub first : (x y : Float) → T (fits binary32 x) → Zero y → Same x (x ⊕ y)
 first x y h z = sym (plus-zero binary32 x y h z)
-
-pub second : (x y : Float) → T (fits binary32 y) → Zero x → Same y (x ⊕ y)
-second x y h z = sym (zero-plus binary32 x y h z)
 
 pub nought : Zero (f1 ⊖ f1)
 unfolding ofBits sub
@@ -68,3 +65,11 @@ is-one x h e = of-plain x false 0 (pos 0) (eq-same binary32 x f1 h one-fits e �
 pub none-left : (a : Float) → T (fits binary32 a) → lt a f0 ≡ false → T (le a f0) → T (eq a f0)
 unfolding le
 none-left a h l t = subst (λ (b : Bool). T (b || eq a f0)) l t
+
+pub le-zero : (a : Float) → Zero a → le a f0 ≡ true
+unfolding le
+le-zero a z = ap (λ (b : Bool). lt a f0 || b) (eq-zeros a f0 z zero-is) ∙ or-true (lt a f0)
+  where
+    or-true : (b : Bool) → b || true ≡ true
+    or-true true = refl
+    or-true false = refl

@@ -5,16 +5,18 @@ use mathlib.Core.Bool.{Bool, true, false, _&&_}
 use lib.Dec.{T}
 use lib.Ieee.{Float, nan, inf, fin, binary32, lt, eq}
 use lib.Ieee.Scale.{finite}
-use Rattle.float_steps.specs.Notation.{_⊕_, _⊗_, f0, f1, half}
+use Rattle.float_steps.specs.Notation.{_⊕_, _⊖_, _⊗_, f0, f1, half}
 use Rattle.ieee_laws.specs.Same.{plain}
-use Rattle.ieee_laws.proofs.Zero.{plain-twice, add-same}
+use Rattle.ieee_laws.proofs.Zero.{plain-twice, times-zero, add-same}
 use Rattle.ieee_laws.proofs.Order.{lt-same}
 use Rattle.ieee_laws.proofs.Bound.{add-unsigned}
 use Rattle.public.specs.PorterDuff.{Operator, clear, A, B, AoverB, BoverA, AinB, BinA, AoutB, BoutA, AatopB, BatopA, AxorB, AplusB}
 use Rattle.public.specs.Compositing.{Mode, multiply, screen, overlay, darken, lighten, colorDodge, colorBurn, hardLight, softLight, difference, exclusion}
-use Rattle.public.specs.FractionDifferences.{ColourOutside, AlphaOutside}
+use Rattle.public.specs.FractionDifferences.{Cleared, ColourOutside, AlphaOutside}
 use Rattle.public.specs.BlendDifferences.{infinite, StoredOutside}
 use Rattle.public.specs.Range.{InUnit}
+use Rattle.public.proofs.Constants.{is-zero, none-left}
+use Rattle.public.proofs.LeftOut.{left-finite}
 use Rattle.public.proofs.InRange.{finite-of, unsigned, not-below, product-in, complement-in, one-in, doubles-in}
 
 -- ---- Porter and Duff
@@ -48,29 +50,32 @@ module _ {s sa d da : Float} (ps : InUnit s) (psa : InUnit sa) (pd : InUnit d) (
 
   pub alpha-outside : (o : Operator) → AlphaOutside o sa da
   alpha-outside clear = (finite-of psa, finite-of pda)
-  alpha-outside A = finite-of pda
-  alpha-outside B = finite-of psa
+  alpha-outside A = left-finite da sa (finite-of pda)
+  alpha-outside B = left-finite sa da (finite-of psa)
   alpha-outside AoverB = sum-not-below (product-in psa one-in) (product-in pda (complement-in psa))
   alpha-outside BoverA = sum-not-below (product-in psa (complement-in pda)) (product-in pda one-in)
-  alpha-outside AinB = finite-of pda
-  alpha-outside BinA = (finite-of psa, product-in psa pda .low)
-  alpha-outside AoutB = finite-of pda
-  alpha-outside BoutA = (finite-of psa, product-in pda (complement-in psa) .low)
+  alpha-outside AinB = left-finite da (sa ⊗ da) (finite-of pda)
+  alpha-outside BinA = (left-finite sa (da ⊗ sa) (finite-of psa), product-in pda psa .low)
+  alpha-outside AoutB = left-finite da (sa ⊗ (f1 ⊖ da)) (finite-of pda)
+  alpha-outside BoutA = (left-finite sa (da ⊗ (f1 ⊖ sa)) (finite-of psa), product-in pda (complement-in psa) .low)
   alpha-outside AatopB = tt
   alpha-outside BatopA = tt
   alpha-outside AxorB = tt
   alpha-outside AplusB = tt
 
+  cleared : {a : Float} → InUnit a → Cleared a (d ⊗ a)
+  cleared {a} p t = times-zero binary32 d a (finite-of pd) (is-zero a (p .held) (none-left a (p .held) (p .low) t))
+
   pub colour-outside : (o : Operator) → T (undivided o) → ColourOutside o s sa d da
   colour-outside clear w = (source, destination)
-  colour-outside A w = destination
-  colour-outside B w = source
+  colour-outside A w = left-finite (d ⊗ da) (s ⊗ sa) destination
+  colour-outside B w = left-finite (s ⊗ sa) (d ⊗ da) source
   colour-outside AoverB w = absurd w
   colour-outside BoverA w = absurd w
-  colour-outside AinB w = destination
-  colour-outside BinA w = (source, record { above = product-in psa pda .low; calm = λ z. finite-of pd })
-  colour-outside AoutB w = destination
-  colour-outside BoutA w = (source, record { above = product-in pda (complement-in psa) .low; calm = λ z. finite-of pd })
+  colour-outside AinB w = left-finite (d ⊗ da) (s ⊗ (sa ⊗ da)) destination
+  colour-outside BinA w = (left-finite (s ⊗ sa) (d ⊗ (da ⊗ sa)) source, cleared (product-in pda psa))
+  colour-outside AoutB w = left-finite (d ⊗ da) (s ⊗ (sa ⊗ (f1 ⊖ da))) destination
+  colour-outside BoutA w = (left-finite (s ⊗ sa) (d ⊗ (da ⊗ (f1 ⊖ sa))) source, cleared (product-in pda (complement-in psa)))
   colour-outside AatopB w = tt
   colour-outside BatopA w = tt
   colour-outside AxorB w = tt

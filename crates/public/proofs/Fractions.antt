@@ -1,16 +1,16 @@
 -- Every operator that Porter and Duff define is theirs: the alpha and each colour of the compositor's pixel are the paper's two sums, in the form in which document 01
 -- has them stored, with the steps of FractionDifferences.antt and outside its inputs. Porter and Duff's thirteen are one theorem for alpha and one for the colours.
 -- Assumes nothing.
-use mathlib.Core.Path.{_≡_, refl, sym, ap, _∙_}
+use mathlib.Core.Path.{_≡_, refl, sym, ap, _∙_, subst}
 use mathlib.Core.Bool.{Bool, true, false, cond}
 use lib.Dec.{T}
-use lib.Ieee.{Float, binary32, fits, lt, le, eq}
+use lib.Ieee.{Float, binary32, fits, lt, le}
 use lib.Ieee.Fits.{mul-fits, add-fits}
 use Rattle.float_steps.specs.Notation.{_⊕_, _⊖_, _⊗_, _⊘_, f0, f1}
 use Rattle.float_steps.specs.Order.{smallerOf}
 use Rattle.ieee_laws.specs.Same.{plain, Same, Zero}
 use Rattle.ieee_laws.proofs.Commute.{mul-commutes, add-commutes}
-use Rattle.ieee_laws.proofs.Zero.{times-zero, zero-plus}
+use Rattle.ieee_laws.proofs.Zero.{zero-plus}
 use Rattle.pictures.specs.declared.Rgba.{Rgba}
 use Rattle.pixels.specs.declared.Params.{Params}
 use Rattle.pixels.specs.Channel.{overChannel, atopChannel, xorChannel, plusChannel}
@@ -18,8 +18,9 @@ use Rattle.pixels.specs.Pixel.{pixelOf, onColours, withAlpha, overBy, keptWhere
 use Rattle.public.specs.PorterDuff.{Operator, A, B, AoverB, BoverA, AinB, BinA, AoutB, BoutA, AatopB, BatopA, AxorB, AplusB, coverage}
 use Rattle.public.specs.PorterDuff as P
 use Rattle.public.specs.Operators.{Colour, at, Held, porterDuffOp}
-use Rattle.public.specs.FractionDifferences.{form, IsColour, IsAlpha, colourBy, coverageBy, Clears, ColourOutside, AlphaOutside}
-use Rattle.public.proofs.Constants.{zero-is, by-one, by-zero, first, second, is-zero, none-left}
+use Rattle.public.specs.FractionDifferences.{form, IsColour, IsAlpha, colourBy, coverageBy, Cleared, ColourOutside, AlphaOutside}
+use Rattle.public.proofs.Constants.{zero-is, by-one, by-zero, is-zero, none-left, le-zero}
+use Rattle.public.proofs.LeftOut.{after, before}
 use Rattle.public.proofs.Pixels.{on-colours, on-premult, on-alpha, on-clear}
 
 -- ---- tests of alpha
@@ -31,7 +32,7 @@ kept-alpha a h l = go (le a f0) (λ (t : T (le a f0)). is-zero a h (none-left a 
     go true z = zero-is ∙ sym (z tt)
     go false z = refl
 
-over-alpha : (a : Float) (s d : Rgba) → overBy a s d .a ≡ cond (le a f0) f0 a
+pub over-alpha : (a : Float) (s d : Rgba) → overBy a s d .a ≡ cond (le a f0) f0 a
 unfolding overBy
 over-alpha a s d = go (le a f0)
   where
@@ -45,8 +46,13 @@ over-colour c a s d h =
     let f : Float → Float → Float = λ x y. overChannel a x y (s .a) (d .a) in
     ap (λ (b : Bool). at c (cond b (withAlpha d f0) (onColours f s d a))) h ∙ on-colours c f s d a
 
+-- where nothing is covered
+pub emptied : (a : Float) (s d : Rgba) → le a f0 ≡ true → overBy a s d ≡ withAlpha d f0
+unfolding overBy
+emptied a s d h = ap (λ (b : Bool). cond b (withAlpha d f0) (onColours (λ x y. overChannel a x y (s .a) (d .a)) s d a)) h
+
 -- DstOver: `over` with the pictures exchanged, and the destination's colour where nothing is covered
-exchanged-alpha : (a : Float) (s d : Rgba) → keptWhereClear (overBy a d s) d .a ≡ cond (le a f0) f0 a
+pub exchanged-alpha : (a : Float) (s d : Rgba) → keptWhereClear (overBy a d s) d .a ≡ cond (le a f0) f0 a
 unfolding keptWhereClear
 exchanged-alpha a s d = ap (λ (x : Float). cond (le x f0) (withAlpha d f0) (overBy a d s) .a) (over-alpha a d s) ∙ go (le a f0) refl
   where
@@ -68,8 +74,12 @@ exchanged-colour c a s d h =
     let above : le (overBy a d s .a) f0 ≡ false = ap (λ (x : Float). le x f0) (over-alpha a d s ∙ ap (λ (b : Bool). cond b f0 a) h) ∙ h in
     ap (λ (b : Bool). at c (cond b (withAlpha d f0) (overBy a d s))) above ∙ over-colour c a d s h
 
+pub exchanged : (a : Float) (s d : Rgba) → le a f0 ≡ true → keptWhereClear (overBy a d s) d ≡ withAlpha d f0
+unfolding keptWhereClear
+exchanged a s d h = ap (λ (o : Rgba). cond (le (o .a) f0) (withAlpha d f0) o) (emptied a d s h) ∙ ap (λ (b : Bool). cond b (withAlpha d f0) (withAlpha s f0)) (le-zero f0 zero-is)
+
 -- DstIn and DstOut
-cleared-alpha : (a : Float) (d : Rgba) → straightOrClearOf d a .a ≡ cond (le a f0) f0 a
+pub cleared-alpha : (a : Float) (d : Rgba) → straightOrClearOf d a .a ≡ cond (le a f0) f0 a
 unfolding straightOrClearOf
 cleared-alpha a d = go (le a f0)
   where
@@ -77,19 +87,21 @@ cleared-alpha a d = go (le a f0)
     go true = refl
     go false = refl
 
-cleared-colour : (c : Colour) (a : Float) (d : Rgba) → T (fits binary32 a) → Clears a (at c d) → Same (at c (straightOrClearOf d a) ⊗ straightOrClearOf d a .a) (at c d ⊗ a)
+-- colour times alpha: 0 where the pixel is cleared
+pub cleared-form : (c : Colour) (a : Float) (d : Rgba) → Same (at c (straightOrClearOf d a) ⊗ straightOrClearOf d a .a) (cond (le a f0) f0 (at c d ⊗ a))
 unfolding straightOrClearOf
-cleared-colour c a d h k = go (le a f0) (none-left a h (k .above))
+cleared-form c a d = go (le a f0)
   where
-    told : (b : Bool) → T b → b ≡ true
-    told true t = refl
-    told false t = absurd t
+    go : (b : Bool) → Same (at c (cond b clear (withAlpha d a)) ⊗ cond b clear (withAlpha d a) .a) (cond b f0 (at c d ⊗ a))
+    go true = ap (λ (x : Float). plain (x ⊗ f0)) (on-clear c) ∙ by-zero f0 (unfold lib.Ieee.ofBits in tt) ∙ sym zero-is
+    go false = ap (λ (x : Float). plain (x ⊗ a)) (on-alpha c d a)
 
-    go : (b : Bool) → (T b → T (eq a f0)) → Same (at c (cond b clear (withAlpha d a)) ⊗ cond b clear (withAlpha d a) .a) (at c d ⊗ a)
-    go true z =
-        ap (λ (x : Float). plain (x ⊗ f0)) (on-clear c) ∙ by-zero f0 (unfold lib.Ieee.ofBits in tt)
-        ∙ sym (times-zero binary32 (at c d) a (k .calm (told (eq a f0) (z tt))) (is-zero a h (z tt)))
-    go false z = ap (λ (x : Float). plain (x ⊗ a)) (on-alpha c d a)
+cleared-colour : (c : Colour) (a : Float) (d : Rgba) → Cleared a (at c d ⊗ a) → Same (at c (straightOrClearOf d a) ⊗ straightOrClearOf d a .a) (at c d ⊗ a)
+cleared-colour c a d k = cleared-form c a d ∙ go (le a f0) k
+  where
+    go : (b : Bool) → (T b → Zero (at c d ⊗ a)) → Same (cond b f0 (at c d ⊗ a)) (at c d ⊗ a)
+    go true z = zero-is ∙ sym (z tt)
+    go false z = refl
 
 module _ (p : Params) (s d : Rgba) (hs : Held s) (hd : Held d) where
   abbrev sa : Float
@@ -101,8 +113,8 @@ module _ (p : Params) (s d : Rgba) (hs : Held s) (hd : Held d) where
   -- ---- alpha
   pub alpha-is : (o : Operator) → AlphaOutside o (s .a) (d .a) → IsAlpha (form o) (pixelOf (porterDuffOp o) p s d .a) (coverageBy o (s .a) (d .a))
   alpha-is P.clear h = zero-is ∙ sym (zero-plus binary32 (sa ⊗ f0) (da ⊗ f0) (mul-fits binary32 da f0) (by-zero sa (h .0)) ∙ by-zero da (h .1))
-  alpha-is A h = ap plain (sym (by-one sa (hs .a))) ∙ first (sa ⊗ f1) (da ⊗ f0) (mul-fits binary32 sa f1) (by-zero da h)
-  alpha-is B h = ap plain (sym (by-one da (hd .a))) ∙ second (sa ⊗ f0) (da ⊗ f1) (mul-fits binary32 da f1) (by-zero sa h)
+  alpha-is A h = after sa da (hs .a) h ∙ ap (λ (z : Float). plain (z ⊕ da ⊗ f0)) (sym (by-one sa (hs .a)))
+  alpha-is B h = before sa da (hd .a) h ∙ ap (λ (z : Float). plain (sa ⊗ f0 ⊕ z)) (sym (by-one da (hd .a)))
   alpha-is AoverB h =
       let a = sa ⊕ da ⊗ (f1 ⊖ sa) in
       let e : a ≡ coverage AoverB sa da = ap (λ (z : Float). z ⊕ da ⊗ (f1 ⊖ sa)) (sym (by-one sa (hs .a))) in
@@ -111,14 +123,15 @@ module _ (p : Params) (s d : Rgba) (hs : Held s) (hd : Held d) where
       let a = da ⊕ sa ⊗ (f1 ⊖ da) in
       let e : a ≡ coverage BoverA sa da = add-commutes binary32 da (sa ⊗ (f1 ⊖ da)) ∙ ap (λ (z : Float). sa ⊗ (f1 ⊖ da) ⊕ z) (sym (by-one da (hd .a))) in
       ap plain (exchanged-alpha a s d) ∙ kept-alpha a (add-fits binary32 da (sa ⊗ (f1 ⊖ da))) (ap (λ (z : Float). lt z f0) e ∙ h) ∙ ap plain e
-  alpha-is AinB h = first (sa ⊗ da) (da ⊗ f0) (mul-fits binary32 sa da) (by-zero da h)
+  alpha-is AinB h = after (sa ⊗ da) da (mul-fits binary32 sa da) h
   alpha-is BinA h =
-      ap plain (cleared-alpha (sa ⊗ da) d) ∙ kept-alpha (sa ⊗ da) (mul-fits binary32 sa da) (h .1)
-      ∙ ap plain (mul-commutes binary32 sa da) ∙ second (sa ⊗ f0) (da ⊗ sa) (mul-fits binary32 da sa) (by-zero sa (h .0))
-  alpha-is AoutB h = first (sa ⊗ (f1 ⊖ da)) (da ⊗ f0) (mul-fits binary32 sa (f1 ⊖ da)) (by-zero da h)
+      let a = da ⊗ sa in
+      ap plain (cleared-alpha (sa ⊗ da) d ∙ ap (λ (z : Float). cond (le z f0) f0 z) (mul-commutes binary32 sa da))
+      ∙ kept-alpha a (mul-fits binary32 da sa) (h .1) ∙ before sa a (mul-fits binary32 da sa) (h .0)
+  alpha-is AoutB h = after (sa ⊗ (f1 ⊖ da)) da (mul-fits binary32 sa (f1 ⊖ da)) h
   alpha-is BoutA h =
       let a = da ⊗ (f1 ⊖ sa) in
-      ap plain (cleared-alpha a d) ∙ kept-alpha a (mul-fits binary32 da (f1 ⊖ sa)) (h .1) ∙ second (sa ⊗ f0) a (mul-fits binary32 da (f1 ⊖ sa)) (by-zero sa (h .0))
+      ap plain (cleared-alpha a d) ∙ kept-alpha a (mul-fits binary32 da (f1 ⊖ sa)) (h .1) ∙ before sa a (mul-fits binary32 da (f1 ⊖ sa)) (h .0)
   alpha-is AatopB h = refl
   alpha-is BatopA h = refl
   alpha-is AxorB h = refl
@@ -137,8 +150,8 @@ module _ (p : Params) (s d : Rgba) (hs : Held s) (hd : Held d) where
     colour-is P.clear h =
         ap plain (on-clear c) ∙ zero-is
         ∙ sym (zero-plus binary32 (S ⊗ sa ⊗ f0) (D ⊗ da ⊗ f0) (mul-fits binary32 (D ⊗ da) f0) (by-zero (S ⊗ sa) (h .0)) ∙ by-zero (D ⊗ da) (h .1))
-    colour-is A h = ap plain (sym (by-one (S ⊗ sa) (mul-fits binary32 S sa))) ∙ first (S ⊗ sa ⊗ f1) (D ⊗ da ⊗ f0) (mul-fits binary32 (S ⊗ sa) f1) (by-zero (D ⊗ da) h)
-    colour-is B h = ap plain (sym (by-one (D ⊗ da) (mul-fits binary32 D da))) ∙ second (S ⊗ sa ⊗ f0) (D ⊗ da ⊗ f1) (mul-fits binary32 (D ⊗ da) f1) (by-zero (S ⊗ sa) h)
+    colour-is A h = after (S ⊗ sa) (D ⊗ da) (mul-fits binary32 S sa) h ∙ ap (λ (z : Float). plain (z ⊕ D ⊗ da ⊗ f0)) (sym (by-one (S ⊗ sa) (mul-fits binary32 S sa)))
+    colour-is B h = before (S ⊗ sa) (D ⊗ da) (mul-fits binary32 D da) h ∙ ap (λ (z : Float). plain (S ⊗ sa ⊗ f0 ⊕ z)) (sym (by-one (D ⊗ da) (mul-fits binary32 D da)))
     colour-is AoverB h =
         let a = sa ⊕ da ⊗ (f1 ⊖ sa) in
         over-colour c a s d (ap (λ (z : Float). le (z ⊕ da ⊗ (f1 ⊖ sa)) f0) (sym (by-one sa (hs .a))) ∙ h)
@@ -149,20 +162,29 @@ module _ (p : Params) (s d : Rgba) (hs : Held s) (hd : Held d) where
         exchanged-colour c a s d (ap (λ (z : Float). le z f0) e ∙ h)
         ∙ (λ i. add-commutes binary32 (D ⊗ da) (S ⊗ sa ⊗ (f1 ⊖ da)) i ⊘ e i)
         ∙ ap (λ (z : Float). (S ⊗ sa ⊗ (f1 ⊖ da) ⊕ z) ⊘ coverage BoverA sa da) (sym (by-one (D ⊗ da) (mul-fits binary32 D da)))
-    colour-is AinB h = ap plain (on-premult c s (sa ⊗ da)) ∙ first (S ⊗ (sa ⊗ da)) (D ⊗ da ⊗ f0) (mul-fits binary32 S (sa ⊗ da)) (by-zero (D ⊗ da) h)
+    colour-is AinB h = ap plain (on-premult c s (sa ⊗ da)) ∙ after (S ⊗ (sa ⊗ da)) (D ⊗ da) (mul-fits binary32 S (sa ⊗ da)) h
     colour-is BinA h =
-        cleared-colour c (sa ⊗ da) d (mul-fits binary32 sa da) (h .1)
-        ∙ ap (λ (z : Float). plain (D ⊗ z)) (mul-commutes binary32 sa da)
-        ∙ second (S ⊗ sa ⊗ f0) (D ⊗ (da ⊗ sa)) (mul-fits binary32 D (da ⊗ sa)) (by-zero (S ⊗ sa) (h .0))
+        cleared-colour c (sa ⊗ da) d (subst (λ (a : Float). Cleared a (D ⊗ a)) (mul-commutes binary32 da sa) (h .1))
+        ∙ ap (λ (a : Float). plain (D ⊗ a)) (mul-commutes binary32 sa da)
+        ∙ before (S ⊗ sa) (D ⊗ (da ⊗ sa)) (mul-fits binary32 D (da ⊗ sa)) (h .0)
     colour-is AoutB h =
         let a = sa ⊗ (f1 ⊖ da) in
-        ap plain (on-premult c s a) ∙ first (S ⊗ a) (D ⊗ da ⊗ f0) (mul-fits binary32 S a) (by-zero (D ⊗ da) h)
+        ap plain (on-premult c s a) ∙ after (S ⊗ a) (D ⊗ da) (mul-fits binary32 S a) h
     colour-is BoutA h =
         let a = da ⊗ (f1 ⊖ sa) in
-        cleared-colour c a d (mul-fits binary32 da (f1 ⊖ sa)) (h .1) ∙ second (S ⊗ sa ⊗ f0) (D ⊗ a) (mul-fits binary32 D a) (by-zero (S ⊗ sa) (h .0))
+        cleared-colour c a d (h .1) ∙ before (S ⊗ sa) (D ⊗ a) (mul-fits binary32 D a) (h .0)
     colour-is AatopB h = on-colours c (λ x y. atopChannel x y sa da) s d da
     colour-is BatopA h = on-colours c (λ x y. atopChannel y x da sa) s d sa ∙ add-commutes binary32 (D ⊗ da ⊗ sa) (S ⊗ sa ⊗ (f1 ⊖ da))
     colour-is AxorB h = on-colours c (λ x y. xorChannel x y sa da) s d (sa ⊗ (f1 ⊖ da) ⊕ da ⊗ (f1 ⊖ sa))
     colour-is AplusB h =
         on-colours c (λ x y. plusChannel x y sa da) s d (smallerOf (sa ⊕ da) f1)
         ∙ (λ i. smallerOf (sym (by-one (S ⊗ sa) (mul-fits binary32 S sa)) i ⊕ sym (by-one (D ⊗ da) (mul-fits binary32 D da)) i) f1)
+
+    -- Over and DstOver where nothing is covered
+    pub over-kept : le (coverage AoverB (s .a) (d .a)) f0 ≡ true → at c (pixelOf (porterDuffOp AoverB) p s d) ≡ at c d
+    over-kept h = ap (at c) (emptied (sa ⊕ da ⊗ (f1 ⊖ sa)) s d (ap (λ (z : Float). le (z ⊕ da ⊗ (f1 ⊖ sa)) f0) (sym (by-one sa (hs .a))) ∙ h)) ∙ on-alpha c d f0
+
+    pub dst-over-kept : le (coverage BoverA (s .a) (d .a)) f0 ≡ true → at c (pixelOf (porterDuffOp BoverA) p s d) ≡ at c d
+    dst-over-kept h =
+        let e : da ⊕ sa ⊗ (f1 ⊖ da) ≡ coverage BoverA sa da = add-commutes binary32 da (sa ⊗ (f1 ⊖ da)) ∙ ap (λ (z : Float). sa ⊗ (f1 ⊖ da) ⊕ z) (sym (by-one da (hd .a))) in
+        ap (at c) (exchanged (da ⊕ sa ⊗ (f1 ⊖ da)) s d (ap (λ (z : Float). le z f0) e ∙ h)) ∙ on-alpha c d f0

@@ -2,6 +2,8 @@
 pub mod PorterDuff
 pub mod Compositing
 pub mod Rows
+-- No hypothesis excludes an input at which the two sides are equal
+pub mod Needed
 -- In general: the fractions, the blend functions, what a convention stores
 pub mod Fractions
 pub mod Blends
@@ -23,5 +25,6 @@ pub mod MixtureRange
 pub mod Screen
 pub mod Exclusion
 -- Small things
+pub mod LeftOut
 pub mod Constants
 pub mod Pixels

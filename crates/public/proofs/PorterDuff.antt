@@ -1,7 +1,8 @@
 -- The thirteen operators that Porter and Duff define, one theorem each: first a colour, then the alpha. s is the source's pixel, d the destination's, and c any of the
--- three colours. A hypothesis excludes the inputs of a row of docs/DIFFERENCES.md, and nothing else. Each is an instance of Fractions.antt. Assumes nothing.
+-- three colours. A hypothesis excludes the inputs of a row of docs/DIFFERENCES.md and no input at which the two sides are equal (Needed.antt). Each is an instance of
+-- Fractions.antt. Assumes nothing.
 use mathlib.Core.Path.{_≡_}
-use mathlib.Core.Bool.{false}
+use mathlib.Core.Bool.{true, false}
 use lib.Dec.{T}
 use lib.Ieee.{Float, lt, le}
 use lib.Ieee.Scale.{finite}
@@ -15,8 +16,8 @@ use Rattle.pixels.specs.declared.Params.{Params}
 use Rattle.pixels.specs.Pixel.{pixelOf}
 use Rattle.public.specs.PorterDuff.{Operator, clear, A, B, AoverB, BoverA, AinB, BinA, AoutB, BoutA, AatopB, BatopA, AxorB, AplusB, colour, coverage}
 use Rattle.public.specs.Operators.{Colour, at, Held}
-use Rattle.public.specs.FractionDifferences.{coverageFirst, part, Clears}
-use Rattle.public.proofs.Fractions.{colour-is, alpha-is}
+use Rattle.public.specs.FractionDifferences.{coverageFirst, part, LeftOut, Cleared}
+use Rattle.public.proofs.Fractions.{colour-is, alpha-is, over-kept, dst-over-kept}
 
 module _ (p : Params) (s d : Rgba) (hs : Held s) (hd : Held d) (c : Colour) where
   -- the pixel's colour and alpha
@@ -50,10 +51,10 @@ module _ (p : Params) (s d : Rgba) (hs : Held s) (hd : Held d) (c : Colour) wher
   clear-is = (colour-is p s d hs hd c clear, alpha-is p s d hs hd clear)
 
   -- with the source's coverage multiplied by the fraction first
-  pub in-is : (T (finite (D ⊗ da)) → Same (C O.In) (part coverageFirst S sa da ⊕ D ⊗ da ⊗ f0)) × (T (finite da) → Same (α O.In) (Q AinB))
+  pub in-is : (LeftOut (D ⊗ da) (S ⊗ (sa ⊗ da)) → Same (C O.In) (part coverageFirst S sa da ⊕ D ⊗ da ⊗ f0)) × (LeftOut da (sa ⊗ da) → Same (α O.In) (Q AinB))
   in-is = (colour-is p s d hs hd c AinB, alpha-is p s d hs hd AinB)
 
-  pub out-is : (T (finite (D ⊗ da)) → Same (C O.Out) (part coverageFirst S sa (f1 ⊖ da) ⊕ D ⊗ da ⊗ f0)) × (T (finite da) → Same (α O.Out) (Q AoutB))
+  pub out-is : (LeftOut (D ⊗ da) (S ⊗ (sa ⊗ (f1 ⊖ da))) → Same (C O.Out) (part coverageFirst S sa (f1 ⊖ da) ⊕ D ⊗ da ⊗ f0)) × (LeftOut da (sa ⊗ (f1 ⊖ da)) → Same (α O.Out) (Q AoutB))
   out-is = (colour-is p s d hs hd c AoutB, alpha-is p s d hs hd AoutB)
 
   -- with the destination's alpha kept
@@ -72,22 +73,22 @@ module _ (p : Params) (s d : Rgba) (hs : Held s) (hd : Held d) (c : Colour) wher
   plus-is = (colour-is p s d hs hd c AplusB tt, alpha-is p s d hs hd AplusB tt)
 
   -- ---- stored straight: colour times alpha is the paper's
-  pub src-is : (T (finite (D ⊗ da)) → Same (C O.Src ⊗ α O.Src) (P A)) × (T (finite da) → Same (α O.Src) (Q A))
+  pub src-is : (LeftOut (D ⊗ da) (S ⊗ sa) → Same (C O.Src ⊗ α O.Src) (P A)) × (LeftOut da sa → Same (α O.Src) (Q A))
   src-is = (colour-is p s d hs hd c A, alpha-is p s d hs hd A)
 
-  pub dst-is : (T (finite (S ⊗ sa)) → Same (C O.Dst ⊗ α O.Dst) (P B)) × (T (finite sa) → Same (α O.Dst) (Q B))
+  pub dst-is : (LeftOut (S ⊗ sa) (D ⊗ da) → Same (C O.Dst ⊗ α O.Dst) (P B)) × (LeftOut sa da → Same (α O.Dst) (Q B))
   dst-is = (colour-is p s d hs hd c B, alpha-is p s d hs hd B)
 
   -- with the destination's coverage multiplied by the fraction first
-  pub dst-in-is : (T (finite (S ⊗ sa)) × Clears (sa ⊗ da) D → Same (C O.DstIn ⊗ α O.DstIn) (S ⊗ sa ⊗ f0 ⊕ part coverageFirst D da sa)) × (T (finite sa) × (lt (sa ⊗ da) f0 ≡ false) → Same (α O.DstIn) (Q BinA))
+  pub dst-in-is : (LeftOut (S ⊗ sa) (D ⊗ (da ⊗ sa)) × Cleared (da ⊗ sa) (D ⊗ (da ⊗ sa)) → Same (C O.DstIn ⊗ α O.DstIn) (S ⊗ sa ⊗ f0 ⊕ part coverageFirst D da sa)) × (LeftOut sa (da ⊗ sa) × (lt (da ⊗ sa) f0 ≡ false) → Same (α O.DstIn) (Q BinA))
   dst-in-is = (colour-is p s d hs hd c BinA, alpha-is p s d hs hd BinA)
 
-  pub dst-out-is : (T (finite (S ⊗ sa)) × Clears (da ⊗ (f1 ⊖ sa)) D → Same (C O.DstOut ⊗ α O.DstOut) (S ⊗ sa ⊗ f0 ⊕ part coverageFirst D da (f1 ⊖ sa))) × (T (finite sa) × (lt (da ⊗ (f1 ⊖ sa)) f0 ≡ false) → Same (α O.DstOut) (Q BoutA))
+  pub dst-out-is : (LeftOut (S ⊗ sa) (D ⊗ (da ⊗ (f1 ⊖ sa))) × Cleared (da ⊗ (f1 ⊖ sa)) (D ⊗ (da ⊗ (f1 ⊖ sa))) → Same (C O.DstOut ⊗ α O.DstOut) (S ⊗ sa ⊗ f0 ⊕ part coverageFirst D da (f1 ⊖ sa))) × (LeftOut sa (da ⊗ (f1 ⊖ sa)) × (lt (da ⊗ (f1 ⊖ sa)) f0 ≡ false) → Same (α O.DstOut) (Q BoutA))
   dst-out-is = (colour-is p s d hs hd c BoutA, alpha-is p s d hs hd BoutA)
 
-  -- ---- stored divided by the coverage
-  pub over-is : (le (Q AoverB) f0 ≡ false → C O.Over ≡ P AoverB ⊘ Q AoverB) × (lt (Q AoverB) f0 ≡ false → Same (α O.Over) (Q AoverB))
-  over-is = (colour-is p s d hs hd c AoverB, alpha-is p s d hs hd AoverB)
+  -- ---- stored divided by the coverage; where nothing is covered, the destination's colour
+  pub over-is : (le (Q AoverB) f0 ≡ false → C O.Over ≡ P AoverB ⊘ Q AoverB) × (le (Q AoverB) f0 ≡ true → C O.Over ≡ D) × (lt (Q AoverB) f0 ≡ false → Same (α O.Over) (Q AoverB))
+  over-is = (colour-is p s d hs hd c AoverB, over-kept p s d hs hd c, alpha-is p s d hs hd AoverB)
 
-  pub dst-over-is : (le (Q BoverA) f0 ≡ false → C O.DstOver ≡ P BoverA ⊘ Q BoverA) × (lt (Q BoverA) f0 ≡ false → Same (α O.DstOver) (Q BoverA))
-  dst-over-is = (colour-is p s d hs hd c BoverA, alpha-is p s d hs hd BoverA)
+  pub dst-over-is : (le (Q BoverA) f0 ≡ false → C O.DstOver ≡ P BoverA ⊘ Q BoverA) × (le (Q BoverA) f0 ≡ true → C O.DstOver ≡ D) × (lt (Q BoverA) f0 ≡ false → Same (α O.DstOver) (Q BoverA))
+  dst-over-is = (colour-is p s d hs hd c BoverA, dst-over-kept p s d hs hd c, alpha-is p s d hs hd BoverA)

@@ -1,32 +1,22 @@
 -- Over and DstOver where both alphas are 0 and the colours finite: there is no quotient, the destination's colour is kept, and the pixel is the paper's all the same: its colour
 -- times its alpha is the paper's colour, and its alpha the paper's coverage. Assumes nothing.
 use mathlib.Core.Path.{_≡_, refl, sym, ap, _∙_}
-use mathlib.Core.Bool.{Bool, true, false, cond, _||_}
 use lib.Dec.{T}
-use lib.Ieee.{Float, binary32, fits, lt, le}
+use lib.Ieee.{Float, binary32, fits}
 use lib.Ieee.Fits.{mul-fits}
 use lib.Ieee.Scale.{finite}
 use Rattle.float_steps.specs.Notation.{_⊕_, _⊖_, _⊗_, f0, f1}
 use Rattle.ieee_laws.specs.Same.{plain, Same, Zero}
 use Rattle.ieee_laws.proofs.Zero.{times-zero, zero-plus, mul-same}
-use Rattle.ieee_laws.proofs.Order.{eq-zeros}
 use Rattle.operators.specs.declared.CompositeOp.the-variants as O
 use Rattle.pictures.specs.declared.Rgba.{Rgba}
 use Rattle.pixels.specs.declared.Params.{Params}
-use Rattle.pixels.specs.Channel.{overChannel}
-use Rattle.pixels.specs.Pixel.{pixelOf, onColours, withAlpha, overBy, keptWhereClear}
+use Rattle.pixels.specs.Pixel.{pixelOf, withAlpha}
 use Rattle.public.specs.PorterDuff.{AoverB, BoverA, colour}
 use Rattle.public.specs.Operators.{Colour, at}
-use Rattle.public.proofs.Constants.{zero-is, by-one, by-zero, less-zero}
+use Rattle.public.proofs.Constants.{by-one, by-zero, less-zero, le-zero}
 use Rattle.public.proofs.Pixels.{on-alpha}
-
-le-zero : (a : Float) → Zero a → le a f0 ≡ true
-unfolding le
-le-zero a z = ap (λ (b : Bool). lt a f0 || b) (eq-zeros a f0 z zero-is) ∙ or-true (lt a f0)
-  where
-    or-true : (b : Bool) → b || true ≡ true
-    or-true true = refl
-    or-true false = refl
+use Rattle.public.proofs.Fractions.{emptied, exchanged}
 
 -- C × α × (1 − β) for two zeros α and β
 no-share : (C α β : Float) → T (finite C) → Zero α → Zero β → Zero (C ⊗ α ⊗ (f1 ⊖ β))
@@ -40,14 +30,6 @@ whole-share C α h z = ap plain (by-one (C ⊗ α) (mul-fits binary32 C α)) ∙
 no-coverage : (x y : Float) → T (fits binary32 y) → Zero x → Zero y → Zero (x ⊕ y ⊗ (f1 ⊖ x))
 no-coverage x y h z w =
     zero-plus binary32 x (y ⊗ (f1 ⊖ x)) (mul-fits binary32 y (f1 ⊖ x)) z ∙ mul-same binary32 y y (f1 ⊖ x) f1 refl (less-zero x z) ∙ ap plain (by-one y h) ∙ w
-
-emptied : (a : Float) (s d : Rgba) → le a f0 ≡ true → overBy a s d ≡ withAlpha d f0
-unfolding overBy
-emptied a s d h = ap (λ (b : Bool). cond b (withAlpha d f0) (onColours (λ x y. overChannel a x y (s .a) (d .a)) s d a)) h
-
-exchanged : (a : Float) (s d : Rgba) → le a f0 ≡ true → keptWhereClear (overBy a d s) d ≡ withAlpha d f0
-unfolding keptWhereClear
-exchanged a s d h = ap (λ (o : Rgba). cond (le (o .a) f0) (withAlpha d f0) o) (emptied a d s h) ∙ ap (λ (b : Bool). cond b (withAlpha d f0) (withAlpha s f0)) (le-zero f0 zero-is)
 
 module _ (p : Params) (s d : Rgba) (zs : Zero (s .a)) (zd : Zero (d .a)) (c : Colour) (fs : T (finite (at c s))) (fd : T (finite (at c d))) where
   stored-nothing : Zero (at c (withAlpha d f0) ⊗ f0)

@@ -1,13 +1,13 @@
 -- Where the compositor departs from Porter and Duff: the form in which a result is stored (document 01), the steps that are taken otherwise, and the inputs at which
 -- that shows. docs/DIFFERENCES.md lists them, and Rows.antt has an input for each. Definitions only.
 use mathlib.Core.Path.{_≡_}
-use mathlib.Core.Bool.{true, false}
+use mathlib.Core.Bool.{false, _||_}
 use lib.Dec.{T}
-use lib.Ieee.{Float, lt, le, eq}
+use lib.Ieee.{Float, lt, le, isNan}
 use lib.Ieee.Scale.{finite}
 use Rattle.float_steps.specs.Notation.{_⊕_, _⊖_, _⊗_, _⊘_, f0, f1}
 use Rattle.float_steps.specs.Order.{smallerOf}
-use Rattle.ieee_laws.specs.Same.{Same}
+use Rattle.ieee_laws.specs.Same.{Same, Zero}
 use Rattle.public.specs.PorterDuff.{Operator, clear, A, B, AoverB, BoverA, AinB, BinA, AoutB, BoutA, AatopB, BatopA, AxorB, AplusB, fraction, FA, FB, coverage}
 
 -- ---- the form: multiplied by alpha as in the paper, to a zero's sign (exact) or but for it; straight; divided by alpha; and Plus is cut at 1
@@ -106,39 +106,41 @@ coverageBy AxorB αA αB = coverage AxorB αA αB
 coverageBy AplusB αA αB = coverage AplusB αA αB
 
 -- ---- the inputs
--- DstIn and DstOut clear a pixel whose alpha a is not above 0. That is no difference where a is a zero and the colour C finite.
-pub record Clears (a C : Float) : Type 0 where
-  pub above : lt a f0 ≡ false
-  pub calm : eq a f0 ≡ true → T (finite C)
+-- A term x × 0 is left out beside y. That is no difference where x is finite, since the term is a zero, nor where y is a NaN, since the sum is one.
+abbrev pub LeftOut : Float → Float → Type 0
+LeftOut x y = T (finite x || isNan y)
 
--- The colours are equal where this holds: a term with the fraction 0, which is left out, is a zero, since its colour is finite; Over's coverage, by which
--- it divides, is above 0 or a NaN
+-- DstIn and DstOut clear a pixel whose alpha a is not above 0. That is no difference where colour times alpha, y, is a zero.
+abbrev pub Cleared : Float → Float → Type 0
+Cleared a y = T (le a f0) → Zero y
+
+-- The colours are equal where this holds, and but for Over and DstOver only there. Over's coverage, by which it divides, is above 0 or a NaN.
 abbrev pub ColourOutside : Operator → Float → Float → Float → Float → Type 0
 ColourOutside clear CA αA CB αB = T (finite (CA ⊗ αA)) × T (finite (CB ⊗ αB))
-ColourOutside A CA αA CB αB = T (finite (CB ⊗ αB))
-ColourOutside B CA αA CB αB = T (finite (CA ⊗ αA))
+ColourOutside A CA αA CB αB = LeftOut (CB ⊗ αB) (CA ⊗ αA)
+ColourOutside B CA αA CB αB = LeftOut (CA ⊗ αA) (CB ⊗ αB)
 ColourOutside AoverB CA αA CB αB = le (coverage AoverB αA αB) f0 ≡ false
 ColourOutside BoverA CA αA CB αB = le (coverage BoverA αA αB) f0 ≡ false
-ColourOutside AinB CA αA CB αB = T (finite (CB ⊗ αB))
-ColourOutside BinA CA αA CB αB = T (finite (CA ⊗ αA)) × Clears (αA ⊗ αB) CB
-ColourOutside AoutB CA αA CB αB = T (finite (CB ⊗ αB))
-ColourOutside BoutA CA αA CB αB = T (finite (CA ⊗ αA)) × Clears (αB ⊗ (f1 ⊖ αA)) CB
+ColourOutside AinB CA αA CB αB = LeftOut (CB ⊗ αB) (CA ⊗ (αA ⊗ αB))
+ColourOutside BinA CA αA CB αB = LeftOut (CA ⊗ αA) (CB ⊗ (αB ⊗ αA)) × Cleared (αB ⊗ αA) (CB ⊗ (αB ⊗ αA))
+ColourOutside AoutB CA αA CB αB = LeftOut (CB ⊗ αB) (CA ⊗ (αA ⊗ (f1 ⊖ αB)))
+ColourOutside BoutA CA αA CB αB = LeftOut (CA ⊗ αA) (CB ⊗ (αB ⊗ (f1 ⊖ αA))) × Cleared (αB ⊗ (f1 ⊖ αA)) (CB ⊗ (αB ⊗ (f1 ⊖ αA)))
 ColourOutside AatopB CA αA CB αB = Unit {0}
 ColourOutside BatopA CA αA CB αB = Unit {0}
 ColourOutside AxorB CA αA CB αB = Unit {0}
 ColourOutside AplusB CA αA CB αB = Unit {0}
 
--- and the alphas where this does: the same of the coverages, and no alpha below 0 is cleared
+-- and the alphas where this does, and only there: the same of the coverages, and no alpha below 0 is cleared
 abbrev pub AlphaOutside : Operator → Float → Float → Type 0
 AlphaOutside clear αA αB = T (finite αA) × T (finite αB)
-AlphaOutside A αA αB = T (finite αB)
-AlphaOutside B αA αB = T (finite αA)
+AlphaOutside A αA αB = LeftOut αB αA
+AlphaOutside B αA αB = LeftOut αA αB
 AlphaOutside AoverB αA αB = lt (coverage AoverB αA αB) f0 ≡ false
 AlphaOutside BoverA αA αB = lt (coverage BoverA αA αB) f0 ≡ false
-AlphaOutside AinB αA αB = T (finite αB)
-AlphaOutside BinA αA αB = T (finite αA) × (lt (αA ⊗ αB) f0 ≡ false)
-AlphaOutside AoutB αA αB = T (finite αB)
-AlphaOutside BoutA αA αB = T (finite αA) × (lt (αB ⊗ (f1 ⊖ αA)) f0 ≡ false)
+AlphaOutside AinB αA αB = LeftOut αB (αA ⊗ αB)
+AlphaOutside BinA αA αB = LeftOut αA (αB ⊗ αA) × (lt (αB ⊗ αA) f0 ≡ false)
+AlphaOutside AoutB αA αB = LeftOut αB (αA ⊗ (f1 ⊖ αB))
+AlphaOutside BoutA αA αB = LeftOut αA (αB ⊗ (f1 ⊖ αA)) × (lt (αB ⊗ (f1 ⊖ αA)) f0 ≡ false)
 AlphaOutside AatopB αA αB = Unit {0}
 AlphaOutside BatopA αA αB = Unit {0}
 AlphaOutside AxorB αA αB = Unit {0}

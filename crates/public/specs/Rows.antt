@@ -232,6 +232,7 @@ uncoveredRows =
     ∷ fractions colourSum AoverB 0x3f80_0000 0xbf00_0000 0x3f00_0000 0 0x3f00_0000 0x3f80_0000
     ∷ fractions colourSum BoverA 0x3f00_0000 0 0x3e80_0000 0 0x3e80_0000 0x7fc0_0000
     ∷ fractions coverageSum BoverA 0 0 0 0xbf00_0000 0 0xbf00_0000
+    ∷ fractions colourSum BoverA 0x3f80_0000 0xbf00_0000 0x3f00_0000 0 0x3f00_0000 0x3f80_0000
     ∷ []
 
 -- DstIn and DstOut clear the pixel where alpha is below 0, and where it is 0 under a colour that is not finite
