@@ -2,18 +2,16 @@
 -- Assumes nothing.
 use mathlib.Core.Path.{_≡_, refl, sym, ap, _∙_, subst}
 use mathlib.Core.Bool.{Bool, true, false, cond, _&&_, _||_, true≢false}
-use lib.IntN.{negsuc}
 use lib.Dec.{T}
-use lib.Ieee.{Float, nan, inf, fin, binary32, ofBits, add, mul, sub, fits, lt, le, eq}
+use lib.Ieee.{Float, nan, inf, fin, binary32, ofBits, add, mul, sub, fits, lt, le, eq, isNan}
 use lib.Ieee.Fits.{add-fits, div-fits}
-use lib.Ieee.Bits.{ofBits-fits}
 use Rattle.float_steps.specs.Notation.{_⊕_, _⊖_, _⊗_, _⊘_, f0, f1, f2, half}
 use Rattle.float_steps.specs.Order.{smallerOf}
 use Rattle.ieee_laws.specs.Same.{plain, Same, Zero}
 use Rattle.ieee_laws.specs.Size.{doubles}
 use Rattle.ieee_laws.proofs.Commute.{mul-commutes, add-commutes}
-use Rattle.ieee_laws.proofs.Zero.{zero-times, zero-plus, sub-same, minus-zero, of-plain}
-use Rattle.ieee_laws.proofs.Order.{eq-comm, eq-same}
+use Rattle.ieee_laws.proofs.Zero.{zero-times, zero-plus, sub-same, minus-zero}
+use Rattle.ieee_laws.proofs.Order.{eq-comm, lt-same}
 use Rattle.ieee_laws.proofs.Twice.{twice-moves}
 use Rattle.ieee_laws.proofs.Clamp.{smaller-commutes, larger-commutes, one-fits}
 use Rattle.ieee_laws.proofs.Abs.{abs-sub}
@@ -22,8 +20,8 @@ use Rattle.pixels.specs.Blend.{blendOf}
 use Rattle.pixels.specs.declared.Params.{Params}
 use Rattle.public.specs.Compositing.{Mode, multiply, screen, overlay, darken, lighten, colorDodge, colorBurn, hardLight, softLight, difference, exclusion, B, hardLightB, softLightB, D, colorDodgeB, colorBurnB}
 use Rattle.public.specs.Operators.{blendOp}
-use Rattle.public.specs.BlendDifferences.{infinite, BlendOutside}
-use Rattle.public.proofs.Constants.{by-one, half-is, two-is}
+use Rattle.public.specs.BlendDifferences.{infinite, DodgeOutside, burnt, BurnOutside, BlendOutside}
+use Rattle.public.proofs.Constants.{by-one, zero-is, zero-below-one, two-is, is-half}
 
 -- ---- hard light: at exactly a half the two branches give the same value
 at-half : Zero (f2 ⊗ half ⊖ f1)
@@ -47,7 +45,7 @@ second-branch z (fin s m e) q h k =
     let d = fin s m e in
     minus-zero binary32 (z ⊕ d) (z ⊗ d) (add-fits binary32 z d) (zero-times binary32 z d tt q) ∙ zero-plus binary32 z d h q
 
-hard-light : (s d : Float) → T (fits binary32 s) → T (fits binary32 d) → eq s half && infinite d ≡ false → Same (hardLightOf s d) (hardLightB d s)
+pub hard-light : (s d : Float) → T (fits binary32 s) → T (fits binary32 d) → eq s half && infinite d ≡ false → Same (hardLightOf s d) (hardLightB d s)
 unfolding hardLightOf hardLightB le
 hard-light s d p q x = go (lt s half) (eq s half) refl x
   where
@@ -56,44 +54,59 @@ hard-light s d p q x = go (lt s half) (eq s half) refl x
     go true v h x = ap plain (mul-commutes binary32 (f2 ⊗ s) d)
     go false false h x = λ i. plain (add-commutes binary32 (f2 ⊗ s ⊖ f1) d i ⊖ mul-commutes binary32 (f2 ⊗ s ⊖ f1) d i)
     go false true h x =
-        let e : s ≡ half = of-plain s false 0 (negsuc 0) (eq-same binary32 s half p (ofBits-fits binary32 0x3f00_0000) (subst T (sym h) tt) ∙ ap plain half-is) ∙ sym half-is in
+        let e = is-half s p (subst T (sym h) tt) in
         second-branch (f2 ⊗ s ⊖ f1) d (ap (λ (w : Float). plain (f2 ⊗ w ⊖ f1)) e ∙ at-half) q x
         ∙ ap plain (sym (by-one d q) ∙ ap (λ (w : Float). d ⊗ w) (sym doubled) ∙ ap (λ (w : Float). d ⊗ (f2 ⊗ w)) (sym e))
 
--- ---- dodge and burn: the tests are W3C's where nothing lies past 0 and 1
-at-most-zero : (x : Float) → lt x f0 ≡ false → le x f0 ≡ eq x f0
-unfolding le
-at-most-zero x h = ap (λ (b : Bool). b || eq x f0) h
+-- ---- dodge and burn: W3C's tests, or the same value
+-- the smaller of 1 and x
+pub cap : (x : Float) → smallerOf f1 x ≡ cond (lt x f1) x f1
+unfolding smallerOf isNan ofBits
+cap x = refl
 
-at-least-one : (x : Float) → lt f1 x ≡ false → le f1 x ≡ eq x f1
-unfolding le
-at-least-one x h = ap (λ (b : Bool). b || eq f1 x) h ∙ eq-comm f1 x
+cap-zero : (x : Float) → Zero x → Zero (smallerOf f1 x)
+cap-zero x z = ap plain (cap x ∙ ap (λ (b : Bool). cond b x f1) (lt-same x f0 f1 f1 (z ∙ sym zero-is) refl ∙ zero-below-one)) ∙ z
 
-color-dodge : (s d : Float) → lt d f0 ≡ false → lt f1 s ≡ false → Same (colorDodgeOf s d) (colorDodgeB d s)
-unfolding colorDodgeOf colorDodgeB
-color-dodge s d h k =
-    let x = d ⊘ (f1 ⊖ s) in
-    (λ i. plain (cond (at-most-zero d h i) f0 (cond (at-least-one s k i) f1 (smallerOf x f1))))
-    ∙ go (eq d f0) (eq s f1) (smallerOf x f1) (smallerOf f1 x) (smaller-commutes binary32 x f1 (div-fits binary32 d (f1 ⊖ s)) one-fits)
+color-dodge : (s d : Float) → DodgeOutside s d → Same (colorDodgeOf s d) (colorDodgeB d s)
+unfolding colorDodgeOf colorDodgeB le
+color-dodge s d h =
+    ap (λ (b : Bool). plain (cond (lt d f0 || eq d f0) f0 (cond (lt f1 s || b) f1 (smallerOf x f1)))) (eq-comm f1 s)
+    ∙ go (lt d f0) (eq d f0) (lt f1 s) (eq s f1) (h .below) (h .above)
   where
-    go : (u v : Bool) (x y : Float) → Same x y → Same (cond u f0 (cond v f1 x)) (cond u f0 (cond v f1 y))
-    go true v x y e = refl
-    go false true x y e = refl
-    go false false x y e = e
+    x : Float
+    x = d ⊘ (f1 ⊖ s)
 
-color-burn : (s d : Float) → lt s f0 ≡ false → lt f1 d ≡ false → eq s f0 && eq d f1 ≡ false → Same (colorBurnOf s d) (colorBurnB d s)
-unfolding colorBurnOf colorBurnB
-color-burn s d h k n =
-    let x = (f1 ⊖ d) ⊘ s in
-    (λ i. plain (cond (at-most-zero s h i) f0 (cond (at-least-one d k i) f1 (f1 ⊖ smallerOf x f1))))
-    ∙ go (eq s f0) (eq d f1) (f1 ⊖ smallerOf x f1) (f1 ⊖ smallerOf f1 x) n
-    (sub-same binary32 f1 f1 (smallerOf x f1) (smallerOf f1 x) refl (smaller-commutes binary32 x f1 (div-fits binary32 (f1 ⊖ d) s) one-fits))
+    go : (u v w z : Bool) → (u ≡ true → (z ≡ false) × Zero x) → (u || v ≡ false → w ≡ true → lt x f1 ≡ false)
+        → Same (cond (u || v) f0 (cond (w || z) f1 (smallerOf x f1))) (cond v f0 (cond z f1 (smallerOf f1 x)))
+    go true true w z h k = refl
+    go true false w true h k = absurd (true≢false (h refl .0))
+    go true false w false h k = zero-is ∙ sym (cap-zero x (h refl .1))
+    go false true w z h k = refl
+    go false false true true h k = refl
+    go false false false true h k = refl
+    go false false true false h k = ap plain (sym (cap x ∙ ap (λ (b : Bool). cond b x f1) (k refl refl)))
+    go false false false false h k = smaller-commutes binary32 x f1 (div-fits binary32 d (f1 ⊖ s)) one-fits
+
+color-burn : (s d : Float) → BurnOutside s d → Same (colorBurnOf s d) (colorBurnB d s)
+unfolding colorBurnOf colorBurnB le
+color-burn s d h =
+    ap (λ (b : Bool). plain (cond (lt s f0 || eq s f0) f0 (cond (lt f1 d || b) f1 (f1 ⊖ smallerOf x f1)))) (eq-comm f1 d)
+    ∙ go (lt s f0) (eq s f0) (lt f1 d) (eq d f1) (h .white) (h .below) (h .above)
   where
-    go : (u v : Bool) (x y : Float) → u && v ≡ false → Same x y → Same (cond u f0 (cond v f1 x)) (cond v f1 (cond u f0 y))
-    go true true x y n e = absurd (true≢false n)
-    go true false x y n e = refl
-    go false true x y n e = refl
-    go false false x y n e = e
+    x : Float
+    x = (f1 ⊖ d) ⊘ s
+
+    go : (u v w z : Bool) → (u || v ≡ true → z ≡ false) → (u ≡ true → Zero (burnt d s)) → (u || v ≡ false → w ≡ true → Same (burnt d s) f1)
+        → Same (cond (u || v) f0 (cond (w || z) f1 (f1 ⊖ smallerOf x f1))) (cond z f1 (cond v f0 (burnt d s)))
+    go true v w true h k l = absurd (true≢false (h refl))
+    go true true w false h k l = refl
+    go true false w false h k l = zero-is ∙ sym (k refl)
+    go false true w true h k l = absurd (true≢false (h refl))
+    go false true w false h k l = refl
+    go false false true true h k l = refl
+    go false false false true h k l = refl
+    go false false true false h k l = sym (l refl refl)
+    go false false false false h k l = sub-same binary32 f1 f1 (smallerOf x f1) (smallerOf f1 x) refl (smaller-commutes binary32 x f1 (div-fits binary32 (f1 ⊖ d) s) one-fits)
 
 -- ---- soft light is W3C's to the letter
 soft-light : (s d : Float) → softLightOf s d ≡ softLightB d s
@@ -138,8 +151,8 @@ blend-is screen a s d p q x = ap plain (blend-exact screen tt a s d)
 blend-is overlay a s d p q x = hard-light d s q p x
 blend-is darken a s d p q x = smaller-commutes binary32 s d p q
 blend-is lighten a s d p q x = larger-commutes binary32 s d p q
-blend-is colorDodge a s d p q x = color-dodge s d (x .0) (x .1)
-blend-is colorBurn a s d p q x = color-burn s d (x .0) (x .1) (x .2)
+blend-is colorDodge a s d p q x = color-dodge s d x
+blend-is colorBurn a s d p q x = color-burn s d x
 blend-is hardLight a s d p q x = hard-light s d p q x
 blend-is softLight a s d p q x = ap plain (blend-exact softLight tt a s d)
 blend-is difference a s d p q x = ap plain (blend-exact difference tt a s d)

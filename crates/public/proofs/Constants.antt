@@ -4,6 +4,7 @@ use mathlib.Core.Bool.{Bool, true, false, _||_}
 use lib.IntN.{pos, negsuc}
 use lib.Dec.{T}
 use lib.Ieee.{Float, fin, binary32, ofBits, sub, fits, lt, le, eq}
+use lib.Ieee.Bits.{ofBits-fits}
 use lib.Ieee.Scale.{finite}
 use Rattle.float_steps.specs.Notation.{_⊕_, _⊖_, _⊗_, _⊘_, f0, f1, f2, half}
 use Rattle.ieee_laws.specs.Same.{plain, Same, Zero}
@@ -26,7 +27,11 @@ pub zero-is : Zero f0
 unfolding ofBits
 zero-is = refl
 
-pub half-is : half ≡ fin false 1 (negsuc 0)
+pub zero-below-one : lt f0 f1 ≡ true
+unfolding ofBits lt
+zero-below-one = refl
+
+half-is : half ≡ fin false 1 (negsuc 0)
 unfolding ofBits
 half-is = refl
 
@@ -60,6 +65,9 @@ is-zero x h e = eq-same binary32 x f0 h zero-fits e ∙ zero-is
 
 pub is-one : (x : Float) → T (fits binary32 x) → T (eq x f1) → x ≡ f1
 is-one x h e = of-plain x false 0 (pos 0) (eq-same binary32 x f1 h one-fits e ∙ ap plain one-is) ∙ sym one-is
+
+pub is-half : (x : Float) → T (fits binary32 x) → T (eq x half) → x ≡ half
+is-half x h e = of-plain x false 0 (negsuc 0) (eq-same binary32 x half h (ofBits-fits binary32 0x3f00_0000) e ∙ ap plain half-is) ∙ sym half-is
 
 -- what is not above 0 and not below it
 pub none-left : (a : Float) → T (fits binary32 a) → lt a f0 ≡ false → T (le a f0) → T (eq a f0)

@@ -1,7 +1,8 @@
--- On the documents' own domain, numbers from 0 to 1, the inputs that the theorems exclude come down to two: Over and DstOver where both alphas are 0, and ColorBurn of black on white. Every other
+-- On the documents' own domain, numbers from 0 to 1, the inputs that the theorems exclude come down to two: Over and DstOver where both alphas are 0, and ColorBurn of black on white where both pictures cover. Every other
 -- hypothesis of PorterDuff.antt and Compositing.antt holds there. Assumes nothing.
-use mathlib.Core.Path.{_≡_, refl, sym, _∙_}
-use mathlib.Core.Bool.{Bool, true, false, _&&_}
+use mathlib.Core.Path.{_≡_, refl, sym, _∙_, subst}
+use mathlib.Core.Logic.{inl, inr}
+use mathlib.Core.Bool.{Bool, true, false, not, _&&_, true≢false}
 use lib.Dec.{T}
 use lib.Ieee.{Float, nan, inf, fin, binary32, lt, eq}
 use lib.Ieee.Scale.{finite}
@@ -9,15 +10,17 @@ use Rattle.float_steps.specs.Notation.{_⊕_, _⊖_, _⊗_, f0, f1, half}
 use Rattle.ieee_laws.specs.Same.{plain}
 use Rattle.ieee_laws.proofs.Zero.{plain-twice, times-zero, add-same}
 use Rattle.ieee_laws.proofs.Order.{lt-same}
-use Rattle.ieee_laws.proofs.Bound.{add-unsigned}
+use Rattle.ieee_laws.proofs.Bound.{at-most-finite, add-unsigned}
 use Rattle.public.specs.PorterDuff.{Operator, clear, A, B, AoverB, BoverA, AinB, BinA, AoutB, BoutA, AatopB, BatopA, AxorB, AplusB}
 use Rattle.public.specs.Compositing.{Mode, multiply, screen, overlay, darken, lighten, colorDodge, colorBurn, hardLight, softLight, difference, exclusion}
+use Rattle.public.specs.Compositing as W
 use Rattle.public.specs.FractionDifferences.{Cleared, ColourOutside, AlphaOutside}
 use Rattle.public.specs.BlendDifferences.{infinite, StoredOutside}
 use Rattle.public.specs.Range.{InUnit}
 use Rattle.public.proofs.Constants.{is-zero, none-left}
 use Rattle.public.proofs.LeftOut.{left-finite}
 use Rattle.public.proofs.InRange.{finite-of, unsigned, not-below, product-in, complement-in, one-in, doubles-in}
+use Rattle.public.proofs.BlendRange.{blend-bound}
 
 -- ---- Porter and Duff
 sum-not-below : {x y : Float} → InUnit x → InUnit y → lt (x ⊕ y) f0 ≡ false
@@ -94,15 +97,29 @@ module _ {s sa d da : Float} (ps : InUnit s) (psa : InUnit sa) (pd : InUnit d) (
       and-false true b e = e
       and-false false b e = refl
 
-  pub stored-outside : (m : Mode) → (eq s f0 && eq d f1 ≡ false) → StoredOutside m s sa d da
-  stored-outside multiply n = tt
-  stored-outside screen n = tt
-  stored-outside overlay n = not-infinite (eq d half) ps
-  stored-outside darken n = tt
-  stored-outside lighten n = tt
-  stored-outside colorDodge n = (pd .low, ps .high)
-  stored-outside colorBurn n = (ps .low, pd .high, n)
-  stored-outside hardLight n = not-infinite (eq s half) pd
-  stored-outside softLight n = tt
-  stored-outside difference n = tt
-  stored-outside exclusion n = (doubles-in (product-in ps psa), doubles-in (product-in pd pda))
+  -- black on white, where both pictures cover
+  abbrev burns : Bool
+  burns = eq s f0 && (eq d f1 && not (eq (sa ⊗ da) f0))
+
+  not-white : (u v : Bool) → T u → u && (v && true) ≡ false → v ≡ false
+  not-white true true t n = n
+  not-white true false t n = refl
+  not-white false v t n = absurd t
+
+  pub stored-outside : (m : Mode) → (burns ≡ false) → StoredOutside m s sa d da
+  stored-outside multiply n = inl tt
+  stored-outside screen n = inl tt
+  stored-outside overlay n = inl (not-infinite (eq d half) ps)
+  stored-outside darken n = inl tt
+  stored-outside lighten n = inl tt
+  stored-outside colorDodge n = inl (record { below = λ e. absurd (true≢false (sym e ∙ pd .low)); above = λ k e. absurd (true≢false (sym e ∙ ps .high)) })
+  stored-outside colorBurn n = go (eq (sa ⊗ da) f0) refl n
+    where
+      go : (b : Bool) → eq (sa ⊗ da) f0 ≡ b → eq s f0 && (eq d f1 && not b) ≡ false → StoredOutside colorBurn s sa d da
+      go true k n = inr (inr (is-zero (sa ⊗ da) (product-in psa pda .held) (subst T (sym k) tt), at-most-finite 100 (W.B colorBurn d s) (blend-bound colorBurn d s pd ps)))
+      go false k n =
+          inl (record { white = λ e. not-white (eq s f0) (eq d f1) (none-left s (ps .held) (ps .low) (subst T (sym e) tt)) n; below = λ e. absurd (true≢false (sym e ∙ ps .low)); above = λ k e. absurd (true≢false (sym e ∙ pd .high)) })
+  stored-outside hardLight n = inl (not-infinite (eq s half) pd)
+  stored-outside softLight n = inl tt
+  stored-outside difference n = inl tt
+  stored-outside exclusion n = inl (doubles-in (product-in ps psa), doubles-in (product-in pd pda))

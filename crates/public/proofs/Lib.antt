@@ -4,9 +4,11 @@ pub mod Compositing
 pub mod Rows
 -- No hypothesis excludes an input at which the two sides are equal
 pub mod Needed
+pub mod BlendsNeeded
 -- In general: the fractions, the blend functions, what a convention stores
 pub mod Fractions
 pub mod Blends
+pub mod BlendsFinite
 pub mod Stored
 -- Where the listed differences vanish
 pub mod Domain

@@ -1,6 +1,7 @@
 -- Multiply, Screen, Lighten, Difference and Exclusion on numbers from 0 to 1: the clamps have nothing to do. The stored colour of the first four is W3C's formula with its mixing
 -- step alone, and where an alpha is 0 or 1 it is W3C's co as printed. Assumes nothing.
 use mathlib.Core.Path.{_≡_, ap, _∙_}
+use mathlib.Core.Logic.{inl}
 use mathlib.Core.Bool.{Bool, true, false, _||_}
 use lib.Dec.{T}
 use lib.Ieee.{Float}
@@ -46,10 +47,10 @@ module _ (p : Params) (s d : Rgba) (ps : InUnits s) (pd : InUnits d) (c : Colour
       ∙ kept (coBy spread v (at c s) (s .a) (at c d) (d .a)) (mixed-in pv (unit-at c s ps) (ps .a) (unit-at c d pd) (pd .a))
 
   pub no-clamp : (m : Mode) → T (mixes m) → Same (at c (pixelOf (blendOp m) p s d)) (coBy spread (B m (at c d) (at c s)) (at c s) (s .a) (at c d) (d .a))
-  no-clamp multiply w = stored-is p s d multiply (held-of s ps) (held-of d pd) c tt ∙ ap plain (twice-kept (B multiply (at c d) (at c s)) (blend-in multiply tt (at c d) (at c s) (unit-at c d pd) (unit-at c s ps)))
-  no-clamp screen w = stored-is p s d screen (held-of s ps) (held-of d pd) c tt ∙ ap plain (twice-kept (B screen (at c d) (at c s)) (blend-in screen tt (at c d) (at c s) (unit-at c d pd) (unit-at c s ps)))
-  no-clamp lighten w = stored-is p s d lighten (held-of s ps) (held-of d pd) c tt ∙ ap plain (twice-kept (B lighten (at c d) (at c s)) (blend-in lighten tt (at c d) (at c s) (unit-at c d pd) (unit-at c s ps)))
-  no-clamp difference w = stored-is p s d difference (held-of s ps) (held-of d pd) c tt ∙ ap plain (twice-kept (B difference (at c d) (at c s)) (blend-in difference tt (at c d) (at c s) (unit-at c d pd) (unit-at c s ps)))
+  no-clamp multiply w = stored-is p s d multiply (held-of s ps) (held-of d pd) c (inl tt) ∙ ap plain (twice-kept (B multiply (at c d) (at c s)) (blend-in multiply tt (at c d) (at c s) (unit-at c d pd) (unit-at c s ps)))
+  no-clamp screen w = stored-is p s d screen (held-of s ps) (held-of d pd) c (inl tt) ∙ ap plain (twice-kept (B screen (at c d) (at c s)) (blend-in screen tt (at c d) (at c s) (unit-at c d pd) (unit-at c s ps)))
+  no-clamp lighten w = stored-is p s d lighten (held-of s ps) (held-of d pd) c (inl tt) ∙ ap plain (twice-kept (B lighten (at c d) (at c s)) (blend-in lighten tt (at c d) (at c s) (unit-at c d pd) (unit-at c s ps)))
+  no-clamp difference w = stored-is p s d difference (held-of s ps) (held-of d pd) c (inl tt) ∙ ap plain (twice-kept (B difference (at c d) (at c s)) (blend-in difference tt (at c d) (at c s) (unit-at c d pd) (unit-at c s ps)))
   no-clamp overlay w = absurd w
   no-clamp darken w = absurd w
   no-clamp colorDodge w = absurd w
@@ -70,4 +71,4 @@ module _ (p : Params) (s d : Rgba) (ps : InUnits s) (pd : InUnits d) (c : Colour
       let x = product-in (unit-at c s ps) (ps .a) in
       let y = product-in (unit-at c d pd) (pd .a) in
       let v = B exclusion (at c d ⊗ d .a) (at c s ⊗ s .a) in
-      stored-is p s d exclusion (held-of s ps) (held-of d pd) c (doubles-in x, doubles-in y) ∙ ap plain (unit-twice v ∙ kept v (blend-in exclusion tt (at c d ⊗ d .a) (at c s ⊗ s .a) y x))
+      stored-is p s d exclusion (held-of s ps) (held-of d pd) c (inl (doubles-in x, doubles-in y)) ∙ ap plain (unit-twice v ∙ kept v (blend-in exclusion tt (at c d ⊗ d .a) (at c s ⊗ s .a) y x))

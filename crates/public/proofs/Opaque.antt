@@ -1,7 +1,7 @@
 -- Two opaque pixels of numbers from 0 to 1: every mode is W3C's printed formula, clamped, and all but Overlay, HardLight and SoftLight are it with no clamp
 -- to be seen. Alpha is W3C's. Assumes nothing.
 use mathlib.Core.Path.{_≡_, refl, sym, ap, _∙_}
-use mathlib.Core.Bool.{Bool, true, cond}
+use mathlib.Core.Bool.{Bool, cond}
 use lib.Dec.{T}
 use lib.Ieee.{Float, binary32, ofBits, add, sub, mul, fits, lt}
 use lib.Ieee.Fits.{mul-fits, add-fits}
@@ -20,7 +20,7 @@ use Rattle.public.specs.Compositing.{Mode, B, co, αo}
 use Rattle.public.specs.Operators.{Colour, at, blendOp}
 use Rattle.public.specs.BlendDifferences.{union, uncovered, spread, coBy, overUnion, storedBy, StoredOutside}
 use Rattle.public.specs.Range.{InUnit, InUnits}
-use Rattle.public.proofs.Constants.{by-one, one-by, divided-by-one, nought}
+use Rattle.public.proofs.Constants.{zero-below-one, by-one, one-by, divided-by-one, nought}
 use Rattle.public.proofs.InRange.{finite-of, one-in, unit-at, held-of}
 use Rattle.public.proofs.BlendRange.{blend-fits, within, blend-in}
 use Rattle.public.proofs.BlendEdges.{second, source-one, union-both-one}
@@ -30,12 +30,8 @@ union-one : union f1 f1 ≡ f1
 unfolding ofBits add sub mul
 union-one = refl
 
-above : lt f0 f1 ≡ true
-unfolding ofBits lt
-above = refl
-
 undivided : (x : Float) → T (fits binary32 x) → overUnion x (union f1 f1) ≡ x
-undivided x h = (λ i. cond (lt f0 (union-one i)) (x ⊘ union-one i) f0) ∙ ap (λ (b : Bool). cond b (x ⊘ f1) f0) above ∙ divided-by-one x h
+undivided x h = (λ i. cond (lt f0 (union-one i)) (x ⊘ union-one i) f0) ∙ ap (λ (b : Bool). cond b (x ⊘ f1) f0) zero-below-one ∙ divided-by-one x h
 
 module _ (s d : Float) (ps : InUnit s) (pd : InUnit d) where
   abbrev t : Float
