@@ -3,7 +3,6 @@
 use mathlib.Core.Path.{refl, sym, ap, _∙_, subst}
 use mathlib.Core.Logic.{_⊎_, inl, inr}
 use mathlib.Core.Bool.{Bool, true, false, cond, _||_}
-use Prim.Native.Nat.{_≤_}
 use lib.Dec.{T, lit≤}
 use lib.Ieee.{Float, binary32, fits, lt, eq}
 use Rattle.float_steps.specs.Notation.{_⊕_, _⊖_, _⊗_, f0, f1}

@@ -1,7 +1,7 @@
--- W3C's B of two numbers from 0 to 1: it is an f32, eight of the eleven stay within 0 to 1 as rounded, and all are finite. Assumes nothing.
+-- W3C's B of two numbers from 0 to 1: it is an f32, all but SoftLight's stay within 0 to 1 as rounded, and all are finite. Assumes nothing.
 use mathlib.Core.Path.{_≡_, refl, sym, ap, _∙_, subst}
 use mathlib.Core.Bool.{Bool, true, false, cond, _||_, _&&_, true≢false}
-use Prim.Native.Nat.{ℕ, zero, suc, _+_, _-_, _*_, _^_, _≤_, _<_}
+use Prim.Native.Nat.{ℕ, zero, suc, _+_, _-_, _*_, _≤_, _<_}
 use native.Mathlib.Nat.{le-trans, le-of-eq, mul-le-mul-right, mul-pos, mul-assoc, mul-comm, mul-one, zero-mul}
 use native.Mathlib.Omega.{arith}
 use lib.IntN.{ℤ}
@@ -26,6 +26,7 @@ use Rattle.public.specs.Range.{InUnit}
 use Rattle.public.proofs.InRange.{at-most-one, unsigned, not-below, in-unit, zero-in, one-in, cond-in, product-in, one-less, complement-in}
 use Rattle.public.proofs.Screen.{screen-in}
 use Rattle.public.proofs.Exclusion.{exclusion-in}
+use Rattle.public.proofs.HardLight.{hard-in}
 
 -- ---- B is an f32
 hard-fits : (b s : Float) → T (fits binary32 (hardLightB b s))
@@ -226,16 +227,16 @@ difference-in b s p q =
     let u : AtMost 1 (b ⊖ s) = same-bound 1 (b ⊖ s) (plain b ⊖ plain s) e (apart-in (plain b) (plain s) (unsigned p) (unsigned q) (plain-bound 1 b (at-most-one p)) (plain-bound 1 s (at-most-one q))) in
     in-unit (absOf (b ⊖ s)) (abs-fits (b ⊖ s)) (not-below (absOf (b ⊖ s)) (abs-unsigned 1 (b ⊖ s) h u)) (abs-bound 1 (b ⊖ s) h u)
 
--- ---- the eight
+-- ---- the ten
 abbrev pub within : Mode → Bool
 within multiply = true
 within screen = true
-within overlay = false
+within overlay = true
 within darken = true
 within lighten = true
 within colorDodge = true
 within colorBurn = true
-within hardLight = false
+within hardLight = true
 within softLight = false
 within difference = true
 within exclusion = true
@@ -243,27 +244,15 @@ within exclusion = true
 pub blend-in : (m : Mode) → T (within m) → (b s : Float) → InUnit b → InUnit s → InUnit (B m b s)
 blend-in multiply w b s p q = product-in p q
 blend-in screen w b s p q = screen-in p q
-blend-in overlay w b s p q = absurd w
+blend-in overlay w b s p q = hard-in s b q p
 blend-in darken w b s p q = unfold smallerOf in cond-in (isNan b) s (cond (lt s b) s b) q (cond-in (lt s b) s b q p)
 blend-in lighten w b s p q = unfold largerOf in cond-in (isNan b) s (cond (lt b s) s b) q (cond-in (lt b s) s b q p)
 blend-in colorDodge w b s p q = dodge-in b s p q
 blend-in colorBurn w b s p q = burn-in b s p q
-blend-in hardLight w b s p q = absurd w
+blend-in hardLight w b s p q = hard-in b s p q
 blend-in softLight w b s p q = absurd w
 blend-in difference w b s p q = difference-in b s p q
 blend-in exclusion w b s p q = exclusion-in p q
-
--- ---- multiply, screen, hard light
-screen-bound : (N : ℕ) → 1 + N + 1 * N ≤ 2 ^ 24 → 1 + N ≤ 2 ^ 24 → 1 * N ≤ 2 ^ 24 → (b x : Float) → AtMost 1 b → AtMost N x → AtMost (1 + N + 1 * N) (b ⊕ x ⊖ b ⊗ x)
-screen-bound N P Q R b x h k = sub-bound binary32 (1 + N) (1 * N) P (b ⊕ x) (b ⊗ x) (add-bound binary32 1 N Q b x h k) (mul-bound binary32 1 N R b x h k)
-
-hard-bound : (b s : Float) → AtMost 1 b → AtMost 1 s → AtMost 7 (hardLightB b s)
-unfolding hardLightB
-hard-bound b s h k =
-    let x : AtMost 2 (f2 ⊗ s) = mul-bound binary32 2 1 (lit≤ tt) f2 s two-under k in
-    cond-bound 7 (le s half) (b ⊗ (f2 ⊗ s)) (b ⊕ (f2 ⊗ s ⊖ f1) ⊖ b ⊗ (f2 ⊗ s ⊖ f1))
-    (at-most-more 2 7 (b ⊗ (f2 ⊗ s)) (lit≤ tt) (mul-bound binary32 1 2 (lit≤ tt) b (f2 ⊗ s) h x))
-    (screen-bound 3 (lit≤ tt) (lit≤ tt) (lit≤ tt) b (f2 ⊗ s ⊖ f1) h (sub-bound binary32 2 1 (lit≤ tt) (f2 ⊗ s) f1 x one-under))
 
 -- ---- soft light
 lits : AtMost 16 (lit 0x4180_0000) × AtMost 12 (lit 0x4140_0000) × AtMost 4 (lit 0x4080_0000)
@@ -306,12 +295,12 @@ small m w b s p q = at-most-more 1 100 (B m b s) (lit≤ tt) (at-most-one (blend
 pub blend-bound : (m : Mode) (b s : Float) → InUnit b → InUnit s → AtMost 100 (B m b s)
 blend-bound multiply b s p q = small multiply tt b s p q
 blend-bound screen b s p q = small screen tt b s p q
-blend-bound overlay b s p q = at-most-more 7 100 (hardLightB s b) (lit≤ tt) (hard-bound s b (at-most-one q) (at-most-one p))
+blend-bound overlay b s p q = small overlay tt b s p q
 blend-bound darken b s p q = small darken tt b s p q
 blend-bound lighten b s p q = small lighten tt b s p q
 blend-bound colorDodge b s p q = small colorDodge tt b s p q
 blend-bound colorBurn b s p q = small colorBurn tt b s p q
-blend-bound hardLight b s p q = at-most-more 7 100 (hardLightB b s) (lit≤ tt) (hard-bound b s (at-most-one p) (at-most-one q))
+blend-bound hardLight b s p q = small hardLight tt b s p q
 blend-bound softLight b s p q = soft-bound b s p q
 blend-bound difference b s p q = small difference tt b s p q
 blend-bound exclusion b s p q = small exclusion tt b s p q

@@ -6,10 +6,10 @@ use Prim.Native.Nat.{ℕ, zero, suc, _+_, _*_, _≤_}
 use native.Mathlib.Omega.{arith}
 use lib.Dec.{T, lit≤}
 use lib.Ieee.{Float, nan, inf, fin, binary32, up, down, ofBits, add, sub, neg, sum, div, fits, lt, le, eq, isNan}
-use lib.Ieee.Fits.{sub-fits, div-fits}
+use lib.Ieee.Fits.{div-fits}
 use lib.Ieee.Scale.{finite}
 use borrow.Author.Tests.{ltb-false}
-use Rattle.float_steps.specs.Notation.{_⊕_, _⊖_, _⊗_, _⊘_, f0, f1, half}
+use Rattle.float_steps.specs.Notation.{_⊖_, _⊘_, f0, f1, half}
 use Rattle.float_steps.specs.Order.{smallerOf}
 use Rattle.ieee_laws.specs.Same.{plain, Same}
 use Rattle.ieee_laws.specs.Size.{AtMost, Unsigned}

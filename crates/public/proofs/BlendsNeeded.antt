@@ -4,7 +4,7 @@ use mathlib.Core.Path.{_≡_, refl, sym, ap, _∙_, subst}
 use mathlib.Core.Bool.{Bool, true, false, cond, _&&_, _||_, true≢false}
 use lib.Dec.{T}
 use lib.Ieee.{Float, nan, inf, fin, binary32, ofBits, add, sub, mul, fits, lt, le, eq, isNan}
-use Rattle.float_steps.specs.Notation.{_⊕_, _⊖_, _⊗_, _⊘_, f0, f1, f2, half}
+use Rattle.float_steps.specs.Notation.{_⊖_, _⊘_, f0, f1, half}
 use Rattle.float_steps.specs.Order.{smallerOf}
 use Rattle.ieee_laws.specs.Same.{plain, Same, Zero}
 use Rattle.ieee_laws.proofs.Order.{lt-same}

@@ -79,5 +79,5 @@ module _ (p : Params) (s d : Rgba) (hs : Held s) (hd : Held d) (c : Colour) wher
   pub darken-is : Same (C O.Darken) (unitOf (unitOf (B darken (Cb ⊗ d .a) (Cs ⊗ s .a)) ⊕ uncovered Cs (s .a) Cb (d .a))) × (α O.Darken ≡ αu)
   darken-is = (stored-is p s d darken hs hd c (inl tt), union-alpha p s d darken)
 
-  pub exclusion-is : (T (doubles binary32 (Cs ⊗ s .a)) × T (doubles binary32 (Cb ⊗ d .a)) → Same (C O.Exclusion) (unitOf (unitOf (B exclusion (Cb ⊗ d .a) (Cs ⊗ s .a))))) × (α O.Exclusion ≡ αu)
+  pub exclusion-is : (T (doubles binary32 (Cs ⊗ s .a)) × T (doubles binary32 (Cb ⊗ d .a)) → Same (C O.Exclusion) (unitOf (B exclusion (Cb ⊗ d .a) (Cs ⊗ s .a)))) × (α O.Exclusion ≡ αu)
   exclusion-is = (λ x. stored-is p s d exclusion hs hd c (inl x), union-alpha p s d exclusion)

@@ -66,8 +66,14 @@ is-zero x h e = eq-same binary32 x f0 h zero-fits e ∙ zero-is
 pub is-one : (x : Float) → T (fits binary32 x) → T (eq x f1) → x ≡ f1
 is-one x h e = of-plain x false 0 (pos 0) (eq-same binary32 x f1 h one-fits e ∙ ap plain one-is) ∙ sym one-is
 
+pub half-fits : T (fits binary32 half)
+half-fits = ofBits-fits binary32 0x3f00_0000
+
+pub same-half : (x : Float) → Same x half → x ≡ half
+same-half x e = of-plain x false 0 (negsuc 0) (e ∙ ap plain half-is) ∙ sym half-is
+
 pub is-half : (x : Float) → T (fits binary32 x) → T (eq x half) → x ≡ half
-is-half x h e = of-plain x false 0 (negsuc 0) (eq-same binary32 x half h (ofBits-fits binary32 0x3f00_0000) e ∙ ap plain half-is) ∙ sym half-is
+is-half x h e = same-half x (eq-same binary32 x half h half-fits e)
 
 -- what is not above 0 and not below it
 pub none-left : (a : Float) → T (fits binary32 a) → lt a f0 ≡ false → T (le a f0) → T (eq a f0)

@@ -26,6 +26,7 @@ pub mod UnitSteps
 pub mod MixtureRange
 pub mod Screen
 pub mod Exclusion
+pub mod HardLight
 -- Small things
 pub mod LeftOut
 pub mod Constants

@@ -8,7 +8,7 @@ use lib.Ieee.{Float}
 use Rattle.float_steps.specs.Notation.{_⊗_}
 use Rattle.float_steps.specs.Order.{unitOf}
 use Rattle.ieee_laws.specs.Same.{plain, Same}
-use Rattle.ieee_laws.proofs.Clamp.{unit-kept, unit-twice}
+use Rattle.ieee_laws.proofs.Clamp.{unit-kept}
 use Rattle.pictures.specs.declared.Rgba.{Rgba}
 use Rattle.pixels.specs.declared.Params.{Params}
 use Rattle.pixels.specs.Pixel.{pixelOf}
@@ -71,4 +71,4 @@ module _ (p : Params) (s d : Rgba) (ps : InUnits s) (pd : InUnits d) (c : Colour
       let x = product-in (unit-at c s ps) (ps .a) in
       let y = product-in (unit-at c d pd) (pd .a) in
       let v = B exclusion (at c d ⊗ d .a) (at c s ⊗ s .a) in
-      stored-is p s d exclusion (held-of s ps) (held-of d pd) c (inl (doubles-in x, doubles-in y)) ∙ ap plain (unit-twice v ∙ kept v (blend-in exclusion tt (at c d ⊗ d .a) (at c s ⊗ s .a) y x))
+      stored-is p s d exclusion (held-of s ps) (held-of d pd) c (inl (doubles-in x, doubles-in y)) ∙ ap plain (kept v (blend-in exclusion tt (at c d ⊗ d .a) (at c s ⊗ s .a) y x))

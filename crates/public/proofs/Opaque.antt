@@ -1,5 +1,4 @@
--- Two opaque pixels of numbers from 0 to 1: every mode is W3C's printed formula, clamped, and all but Overlay, HardLight and SoftLight are it with no clamp
--- to be seen. Alpha is W3C's. Assumes nothing.
+-- Two opaque pixels of numbers from 0 to 1: every mode is W3C's printed formula, clamped, and all but SoftLight are it with no clamp to be seen. Alpha is W3C's. Assumes nothing.
 use mathlib.Core.Path.{_≡_, refl, sym, ap, _∙_}
 use mathlib.Core.Bool.{Bool, cond}
 use lib.Dec.{T}
@@ -65,7 +64,7 @@ module _ (s d : Float) (ps : InUnit s) (pd : InUnit d) where
       (λ i. plain (unitOf (unitOf (B m (by-one d (pd .held) i) (by-one s (ps .held) i)) ⊕ t)))
       ∙ unit-same (v ⊕ t) v (plus-zero binary32 v t (unit-fits (B m d s) (blend-fits m d s (pd .held) (ps .held))) all-covered)
       ∙ ap plain (unit-twice (B m d s))
-  stored PremultOnly m = (λ i. plain (unitOf (unitOf (B m (by-one d (pd .held) i) (by-one s (ps .held) i))))) ∙ ap plain (unit-twice (B m d s))
+  stored PremultOnly m = λ i. plain (unitOf (B m (by-one d (pd .held) i) (by-one s (ps .held) i)))
 
 module _ (p : Params) (s d : Rgba) (ps : InUnits s) (pd : InUnits d) (es : s .a ≡ f1) (ed : d .a ≡ f1) (c : Colour) (m : Mode) where
   blend : StoredOutside m (at c s) (s .a) (at c d) (d .a) → Same (at c (pixelOf (blendOp m) p s d)) (unitOf (B m (at c d) (at c s)))

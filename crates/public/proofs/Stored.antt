@@ -11,7 +11,7 @@ use Rattle.float_steps.specs.Notation.{_⊕_, _⊗_, _⊘_, f0}
 use Rattle.float_steps.specs.Order.{unitOf}
 use Rattle.ieee_laws.specs.Same.{plain, Same}
 use Rattle.ieee_laws.proofs.Zero.{zero-times, add-same, mul-same, div-same}
-use Rattle.ieee_laws.proofs.Clamp.{unit-same}
+use Rattle.ieee_laws.proofs.Clamp.{unit-same, unit-twice}
 use Rattle.operators.specs.declared.Convention.{Convention}
 use Rattle.operators.specs.declared.Convention.the-variants.{Premult, Divided, OnPremult, PremultOnly}
 use Rattle.operators.specs.Conventions.{convention}
@@ -87,14 +87,14 @@ module _ (s sa d da : Float) where
   by-convention PremultOnly f m e =
       let x = f (s ⊗ sa) (d ⊗ da) in
       let y = B m (d ⊗ da) (s ⊗ sa) in
-      unit-same (unitOf x) (unitOf y) (unit-same x y e)
+      ap plain (unit-twice x) ∙ unit-same x y e
 
   -- and one that is B
   exact-by-convention : (k : Convention) (f : Float → Float → Float) (m : Mode) → f (blended k s sa) (blended k d da) ≡ B m (blended k d da) (blended k s sa) → channelOf k f s d sa da ≡ storedBy spread k m s sa d da
   exact-by-convention Premult f m e = ap (λ (v : Float). unitOf (coBy spread (unitOf v) s sa d da)) e
   exact-by-convention Divided f m e = ap unitOf (over-union-is (coBy spread (f s d) s sa d da) (union sa da) ∙ ap (λ (v : Float). overUnion (coBy spread v s sa d da) (union sa da)) e)
   exact-by-convention OnPremult f m e = ap (λ (v : Float). unitOf (unitOf v ⊕ uncovered s sa d da)) e
-  exact-by-convention PremultOnly f m e = ap (λ (v : Float). unitOf (unitOf v)) e
+  exact-by-convention PremultOnly f m e = unit-twice (f (s ⊗ sa) (d ⊗ da)) ∙ ap unitOf e
 
 -- ---- the pixel
 module _ (p : Params) (s d : Rgba) where

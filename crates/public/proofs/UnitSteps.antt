@@ -11,7 +11,6 @@ use lib.Dec.{T, ltb, lit≤, lit<}
 use lib.Pow.{pow-pos}
 use lib.Ieee.{Float, binary32, ofBits, round, fits, le}
 use lib.Ieee.Fits.{round-fits, mul-fits, sub-fits}
-use lib.Ieee.Bits.{ofBits-fits}
 use lib.Ieee.Exact.{round-exact}
 use lib.Ieee.Order.{round-mono}
 use lib.Ieee.Scale.{finite, grid}
@@ -22,6 +21,7 @@ use Rattle.ieee_laws.proofs.Bound.{at-most-finite, round-bound, round-unsigned}
 use Rattle.ieee_laws.proofs.Clamp.{one-fits}
 use Rattle.ieee_laws.proofs.Units.{Counted, counted, grain, mul-counts, sub-counts, round-counts, round-within, round-at-most, round-at-least, counts-le, one-count, count-at-most}
 use Rattle.public.specs.Range.{InUnit}
+use Rattle.public.proofs.Constants.{half-fits}
 use Rattle.public.proofs.InRange.{at-most-one, finite-of}
 use Rattle.public.proofs.Mixture.{Fine, Product, Complement, Sum}
 
@@ -131,12 +131,9 @@ pub one-counts : Counts binary32 f1 M
 unfolding ofBits
 one-counts = (refl, refl)
 
-half-counts : Counts binary32 half H
+pub half-counts : Counts binary32 half H
 unfolding ofBits
 half-counts = (refl, refl)
-
-half-fits : T (fits binary32 half)
-half-fits = ofBits-fits binary32 0x3f00_0000
 
 -- ---- M - a
 pub complement : (a : ℕ) → a ≤ M → Fine E U H M a → Complement E U H M a (grid binary32 (M - a) M)

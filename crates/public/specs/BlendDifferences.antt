@@ -49,7 +49,7 @@ abbrev pub storedBy : Mixing → Convention → Mode → Float → Float → Flo
 storedBy g Premult m Cs αs Cb αb = unitOf (coBy g (unitOf (B m Cb Cs)) Cs αs Cb αb)
 storedBy g Divided m Cs αs Cb αb = unitOf (overUnion (coBy g (B m Cb Cs) Cs αs Cb αb) (union αs αb))
 storedBy g OnPremult m Cs αs Cb αb = unitOf (unitOf (B m (Cb ⊗ αb) (Cs ⊗ αs)) ⊕ uncovered Cs αs Cb αb)
-storedBy g PremultOnly m Cs αs Cb αb = unitOf (unitOf (B m (Cb ⊗ αb) (Cs ⊗ αs)))
+storedBy g PremultOnly m Cs αs Cb αb = unitOf (B m (Cb ⊗ αb) (Cs ⊗ αs))
 
 -- ---- the inputs
 abbrev pub infinite : Float → Bool

@@ -79,7 +79,7 @@ abbrev pub blendKept : Convention → Mode → Float → Float → Float → Flo
 blendKept Premult m s sa d da = unitOf (coBy spread (W.B m d s) s sa d da)
 blendKept Divided m s sa d da = storedBy spread Divided m s sa d da
 blendKept OnPremult m s sa d da = unitOf (W.B m (d ⊗ da) (s ⊗ sa) ⊕ uncovered s sa d da)
-blendKept PremultOnly m s sa d da = unitOf (W.B m (d ⊗ da) (s ⊗ sa))
+blendKept PremultOnly m s sa d da = storedBy spread PremultOnly m s sa d da
 
 abbrev pub resultKept : Convention → Mode → Float → Float → Float → Float → Float
 resultKept Premult m s sa d da = coBy spread (unitOf (W.B m d s)) s sa d da
@@ -350,7 +350,7 @@ clampRows =
     blends clampOfResult multiply 0 0 0xbf80_0000 0x3f00_0000 0 0xbf00_0000 0xbf00_0000
     ∷ blends clampOfResult screen 0xbf00_0000 0x3f00_0000 0x3f80_0000 0 0 0xbe80_0000 0xbe80_0000
     ∷ blends clampOfResult overlay 0x3f00_0000 0x3f00_0000 0xbf80_0000 0x3f00_0000 0 0xbf00_0000 0xbf00_0000
-    ∷ blends clampOfResult darken 0xbf80_0000 0x3f80_0000 0x3f80_0000 0x3f00_0000 0 0xbf00_0000 0xbf80_0000
+    ∷ blends clampOfResult darken 0x3f80_0000 0x3f19_999a 0x3f80_0000 0x3f19_999a 0x3f80_0000 0x3f8a_3d71 0x3f57_0a3e
     ∷ blends clampOfResult lighten 0xbf80_0000 0x3f00_0000 0x3f00_0000 0 0 0xbf00_0000 0xbf00_0000
     ∷ blends clampOfResult colorDodge 0xbf00_0000 0x3f80_0000 0x3f00_0000 0x3f00_0000 0 0xbdaa_aaaa 0xbdaa_aaaa
     ∷ blends clampOfResult colorBurn 0x4000_0000 0x3f00_0000 0x3f00_0000 0x3f00_0000 0x3f80_0000 0x3f8a_aaab 0x3f8a_aaab
