@@ -3,25 +3,23 @@
 use mathlib.Core.Path.{_≡_, refl, sym, ap, _∙_, subst}
 use mathlib.Core.Bool.{Bool, true, false}
 use Prim.Native.Nat.{ℕ, _+_, _-_, _*_, _≤_, _<_}
-use native.Mathlib.Nat.{le-trans, le-of-eq, lt-of-le-of-lt, add-mul, add-comm, mul-comm, mul-assoc, mul-right-comm, one-mul, mul-le-mul, mul-le-mul-left, mul-le-mul-right, mul-lt-mul-of-pos-right, le-of-mul-le-mul-right, le-of-lt, add-sub-of-le}
+use native.Mathlib.Nat.{le-trans, le-of-eq, lt-of-le-of-lt, add-mul, add-comm, mul-comm, mul-assoc, mul-right-comm, mul-le-mul, mul-le-mul-left, mul-le-mul-right, mul-lt-mul-of-pos-right, le-of-mul-le-mul-right, le-of-lt, add-sub-of-le}
 use native.Mathlib.Omega.{arith}
-use lib.Dec.{T, ltb, lit≤, lit<}
-use lib.Ieee.{Float, binary32, fits, le}
+use lib.Dec.{T, ltb, lit<}
+use lib.Ieee.{Float, binary32, fits}
 use lib.Ieee.Fits.{sub-fits}
 use lib.Ieee.Order.{round-mono}
 use lib.Ieee.Scale.{finite, grid}
 use borrow.Author.Tests.{ltb-true, ltb-false}
-use Rattle.float_steps.specs.Notation.{_⊕_, _⊖_, _⊗_, f1, f2}
+use Rattle.float_steps.specs.Notation.{_⊕_, _⊖_, _⊗_, f2}
 use Rattle.ieee_laws.specs.Same.{plain, Same}
 use Rattle.ieee_laws.specs.Size.{AtMost, Unsigned, Counts, doubles}
 use Rattle.ieee_laws.proofs.Zero.{plain-twice, add-same, mul-same, sub-same}
-use Rattle.ieee_laws.proofs.Bound.{round-unsigned}
-use Rattle.ieee_laws.proofs.Units.{mul-counts, add-counts, sub-counts, round-counts, round-at-least, counts-le, at-most-count, count-twice}
+use Rattle.ieee_laws.proofs.Units.{mul-counts, add-counts, sub-counts, round-counts, round-at-least, counts-le, count-twice}
 use Rattle.public.specs.Range.{InUnit}
 use Rattle.public.proofs.Constants.{two-is}
 use Rattle.public.proofs.InRange.{unsigned, in-unit-same, plain-in, doubles-in}
-use Rattle.public.proofs.MixtureRange.{to-one}
-use Rattle.public.proofs.UnitSteps.{E, U, H, M, R, Part, part, bounded, M-pos, MM-pos, one-counts}
+use Rattle.public.proofs.UnitSteps.{up-to-one, E, U, H, M, R, Part, part, bounded, M-pos, MM-pos}
 use Rattle.public.proofs.Screen.{left-over, lower-product, sum-near, sum-nearer, sum-ok}
 
 module _ {x y : Float} {a b : ℕ} (p : Part x a) (q : Part y b) where
@@ -116,7 +114,7 @@ module _ {x y : Float} {a b : ℕ} (p : Part x a) (q : Part y b) where
   -- the difference
   excluded : T (doubles binary32 x) → AtMost 1 (x ⊕ y ⊖ f2 ⊗ x ⊗ y) × Unsigned (x ⊕ y ⊖ f2 ⊗ x ⊗ y)
   excluded d =
-      (subst (AtMost 1) (sym is) (at-most-count binary32 1 (R k M) (grid binary32 k M) counts (le-trans last (le-of-eq (sym (one-mul M))))), subst Unsigned (sym is) (round-unsigned binary32 k M))
+      subst (λ (z : Float). AtMost 1 z × Unsigned z) (sym is) (up-to-one k few)
     where
       k : ℕ
       k = t - c
@@ -138,12 +136,6 @@ module _ {x y : Float} {a b : ℕ} (p : Part x a) (q : Part y b) where
 
       is : x ⊕ y ⊖ f2 ⊗ x ⊗ y ≡ R k M
       is = sub-counts binary32 (x ⊕ y) (f2 ⊗ x ⊗ y) t c sum-counts product-counts smaller
-
-      counts : Counts binary32 (R k M) (grid binary32 k M)
-      counts = round-counts binary32 k M (bounded k M M-pos (le-trans few (lit≤ tt)))
-
-      last : grid binary32 k M ≤ M
-      last = counts-le binary32 (R k M) f1 (grid binary32 k M) M counts one-counts (subst (λ (z : Float). T (le (R k M) z)) to-one (round-mono binary32 k M (M + 4 * E) M M-pos M-pos (mul-le-mul-right M few)))
 
 pub exclusion-in : {x y : Float} → InUnit x → InUnit y → InUnit (x ⊕ y ⊖ f2 ⊗ x ⊗ y)
 exclusion-in {x} {y} p q = by (part (plain-in p) (unsigned p)) (part (plain-in q) (unsigned q))

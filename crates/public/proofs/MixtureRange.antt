@@ -1,34 +1,28 @@
 -- On numbers from 0 to 1 the sum of a mixture, three shares of colours up to 1, rounds to at most 1. Assumes nothing.
 use mathlib.Core.Path.{_≡_, refl, sym, subst}
 use Prim.Native.Nat.{ℕ, _+_, _-_, _*_, _≤_}
-use native.Mathlib.Nat.{le-trans, le-of-eq, one-mul, mul-le-mul-right}
+use native.Mathlib.Nat.{le-trans}
 use native.Mathlib.Omega.{arith}
-use lib.Dec.{T, lit≤, lit<}
-use lib.Ieee.{Float, binary32, ofBits, round, le}
+use lib.Dec.{lit<}
+use lib.Ieee.{Float, binary32}
 use lib.Ieee.Fits.{add-fits}
-use lib.Ieee.Order.{round-mono}
 use lib.Ieee.Scale.{grid}
 use Rattle.float_steps.specs.Notation.{_⊕_, _⊖_, _⊗_, f1}
 use Rattle.ieee_laws.specs.Same.{plain, Same}
 use Rattle.ieee_laws.specs.Size.{AtMost, Unsigned, Counts}
-use Rattle.ieee_laws.proofs.Bound.{round-unsigned}
 use Rattle.ieee_laws.proofs.Zero.{plain-twice, add-same, mul-same, sub-same}
-use Rattle.ieee_laws.proofs.Units.{add-counts, round-counts, counts-le, at-most-count}
+use Rattle.ieee_laws.proofs.Units.{add-counts, round-counts}
 use Rattle.public.specs.BlendDifferences.{spread, coBy}
 use Rattle.public.specs.Range.{InUnit}
 use Rattle.public.proofs.InRange.{unsigned, in-unit-same, plain-in}
 use Rattle.public.proofs.Mixture.{mixture}
-use Rattle.public.proofs.UnitSteps.{E, U, H, M, R, g, Part, part, bounded, M-pos, one-counts, total, times, less, product-of, complement, sum}
-
-pub to-one : R (M + 4 * E) M ≡ f1
-unfolding round ofBits
-to-one = refl
+use Rattle.public.proofs.UnitSteps.{up-to-one, E, U, H, M, R, g, Part, part, bounded, M-pos, total, times, less, product-of, complement, sum}
 
 -- v, s and d are colours, x and y alphas
 mixed : (x y v s d : Float) (a b c e h : ℕ) → Part x a → Part y b → Part v c → Part s e → Part d h
     → AtMost 1 (x ⊗ y ⊗ v ⊕ (x ⊗ (f1 ⊖ y) ⊗ s ⊕ y ⊗ (f1 ⊖ x) ⊗ d)) × Unsigned (x ⊗ y ⊗ v ⊕ (x ⊗ (f1 ⊖ y) ⊗ s ⊕ y ⊗ (f1 ⊖ x) ⊗ d))
 mixed x y v s d a b c e h px py pv ps pd =
-    (subst (AtMost 1) (sym is) (at-most-count binary32 1 (R (p' + t) M) (grid binary32 (p' + t) M) counts (le-trans last (le-of-eq (sym (one-mul M))))), subst Unsigned (sym is) (round-unsigned binary32 (p' + t) M))
+    subst (λ (z : Float). AtMost 1 z × Unsigned z) (sym is) (up-to-one (p' + t) all)
   where
     X : ℕ
     X = grid binary32 (M - a) M
@@ -70,12 +64,6 @@ mixed x y v s d a b c e h px py pv ps pd =
 
     is : x ⊗ y ⊗ v ⊕ (x ⊗ (f1 ⊖ y) ⊗ s ⊕ y ⊗ (f1 ⊖ x) ⊗ d) ≡ R (p' + t) M
     is = add-counts binary32 (x ⊗ y ⊗ v) (x ⊗ (f1 ⊖ y) ⊗ s ⊕ y ⊗ (f1 ⊖ x) ⊗ d) p' t (times (times px py) pv .is) sum-counts
-
-    counts : Counts binary32 (R (p' + t) M) (grid binary32 (p' + t) M)
-    counts = round-counts binary32 (p' + t) M (bounded (p' + t) M M-pos (le-trans all (lit≤ tt)))
-
-    last : grid binary32 (p' + t) M ≤ M
-    last = counts-le binary32 (R (p' + t) M) f1 (grid binary32 (p' + t) M) M counts one-counts (subst (λ (z : Float). T (le (R (p' + t) M) z)) to-one (round-mono binary32 (p' + t) M (M + 4 * E) M M-pos M-pos (mul-le-mul-right M all)))
 
 -- ---- with either zero
 pub mixed-in : {v s sa d da : Float} → InUnit v → InUnit s → InUnit sa → InUnit d → InUnit da → InUnit (coBy spread v s sa d da)

@@ -4,11 +4,11 @@ use mathlib.Core.Path.{_≡_, refl, sym, ap, _∙_, subst}
 use mathlib.Core.Logic.{inl, inr}
 use mathlib.Core.Bool.{Bool, true, false}
 use Prim.Native.Nat.{ℕ, _+_, _-_, _*_, _/_, _^_, _≤_, _<_}
-use native.Mathlib.Nat.{le-trans, le-of-eq, lt-of-le-of-lt, lt-of-lt-of-le, add-mul, mul-add, add-comm, add-sub-of-le, mul-comm, mul-assoc, mul-right-comm, mul-sub, one-mul, mul-le-mul, mul-le-mul-left, mul-le-mul-right, mul-lt-mul-of-pos-right, le-of-mul-le-mul-right, lt-of-mul-lt-mul-right, div-lt-iff-lt-mul}
+use native.Mathlib.Nat.{le-trans, le-of-eq, lt-of-le-of-lt, lt-of-lt-of-le, add-mul, mul-add, add-comm, add-sub-of-le, mul-comm, mul-assoc, mul-right-comm, mul-sub, mul-le-mul, mul-le-mul-left, mul-le-mul-right, mul-lt-mul-of-pos-right, le-of-mul-le-mul-right, lt-of-mul-lt-mul-right, div-lt-iff-lt-mul}
 use native.Mathlib.Omega.{arith}
 use lib.Dec.{T, ltb, lit≤, lit<}
 use lib.Pow.{pow-pos}
-use lib.Ieee.{Float, binary32, ofBits, le}
+use lib.Ieee.{Float, binary32, ofBits}
 use lib.Ieee.Fits.{sub-fits}
 use lib.Ieee.Bits.{ofBits-fits}
 use lib.Ieee.Exact.{round-exact}
@@ -19,13 +19,11 @@ use Rattle.float_steps.specs.Notation.{_⊕_, _⊖_, _⊗_, f1, f2}
 use Rattle.ieee_laws.specs.Same.{plain, Same}
 use Rattle.ieee_laws.specs.Size.{AtMost, Unsigned, Counts, Near}
 use Rattle.ieee_laws.proofs.Zero.{plain-twice, add-same, mul-same, sub-same}
-use Rattle.ieee_laws.proofs.Bound.{round-unsigned}
-use Rattle.ieee_laws.proofs.Units.{add-counts, sub-counts, round-counts, round-within, round-at-most, round-at-least, counts-le, at-most-count}
+use Rattle.ieee_laws.proofs.Units.{add-counts, sub-counts, round-counts, round-within, round-at-most, round-at-least, counts-le}
 use Rattle.public.specs.Range.{InUnit}
 use Rattle.public.proofs.InRange.{unsigned, in-unit-same, plain-in}
 use Rattle.public.proofs.Mixture.{Fine}
-use Rattle.public.proofs.MixtureRange.{to-one}
-use Rattle.public.proofs.UnitSteps.{E, U, H, M, R, g, Part, part, bounded, fraction, MM-pos, M-pos, near-whole, one-counts, total, times, product-of}
+use Rattle.public.proofs.UnitSteps.{up-to-one, E, U, H, M, R, g, Part, part, bounded, fraction, MM-pos, M-pos, near-whole, one-counts, total, times, product-of}
 
 -- ---- whole numbers
 module _ (E U H M : ℕ) (e0 : 0 < E) (eU : U ≡ 4 * E) (eH : H ≡ 33554432 * E) (eM : M ≡ 2 * H) where
@@ -302,7 +300,7 @@ too-much {x} {y} {a} {b} p q = go (ltb a b) (ltb-true a b) (ltb-false a b)
 
 screened : (x y : Float) (a b : ℕ) → Part x a → Part y b → AtMost 1 (x ⊕ y ⊖ x ⊗ y) × Unsigned (x ⊕ y ⊖ x ⊗ y)
 screened x y a b p q =
-    (subst (AtMost 1) (sym is) (at-most-count binary32 1 (R n M) (grid binary32 n M) counts (le-trans last (le-of-eq (sym (one-mul M))))), subst Unsigned (sym is) (round-unsigned binary32 n M))
+    subst (λ (z : Float). AtMost 1 z × Unsigned z) (sym is) (up-to-one n few)
   where
     t : ℕ
     t = grid binary32 (a + b) M
@@ -327,12 +325,6 @@ screened x y a b p q =
 
     is : x ⊕ y ⊖ x ⊗ y ≡ R n M
     is = sub-counts binary32 (x ⊕ y) (x ⊗ y) t (g a b) sum-counts (times p q .is) smaller
-
-    counts : Counts binary32 (R n M) (grid binary32 n M)
-    counts = round-counts binary32 n M (bounded n M M-pos (le-trans few (lit≤ tt)))
-
-    last : grid binary32 n M ≤ M
-    last = counts-le binary32 (R n M) f1 (grid binary32 n M) M counts one-counts (subst (λ (z : Float). T (le (R n M) z)) to-one (round-mono binary32 n M (M + 4 * E) M M-pos M-pos (mul-le-mul-right M few)))
 
 pub screen-in : {x y : Float} → InUnit x → InUnit y → InUnit (x ⊕ y ⊖ x ⊗ y)
 screen-in {x} {y} p q = by (part (plain-in p) (unsigned p)) (part (plain-in q) (unsigned q))

@@ -16,10 +16,10 @@ use lib.Ieee.Order.{round-mono}
 use lib.Ieee.Scale.{finite, grid}
 use borrow.Author.Tests.{ltb-true, ltb-false}
 use Rattle.float_steps.specs.Notation.{_⊖_, _⊗_, f1, half}
-use Rattle.ieee_laws.specs.Size.{Unsigned, Counts, Near}
+use Rattle.ieee_laws.specs.Size.{AtMost, Unsigned, Counts, Near}
 use Rattle.ieee_laws.proofs.Bound.{at-most-finite, round-bound, round-unsigned}
 use Rattle.ieee_laws.proofs.Clamp.{one-fits}
-use Rattle.ieee_laws.proofs.Units.{Counted, counted, grain, mul-counts, sub-counts, round-counts, round-within, round-at-most, round-at-least, counts-le, one-count, count-at-most}
+use Rattle.ieee_laws.proofs.Units.{Counted, counted, grain, mul-counts, sub-counts, round-counts, round-within, round-at-most, round-at-least, counts-le, one-count, count-at-most, at-most-count}
 use Rattle.public.specs.Range.{InUnit}
 use Rattle.public.proofs.Constants.{half-fits}
 use Rattle.public.proofs.InRange.{at-most-one, finite-of}
@@ -134,6 +134,17 @@ one-counts = (refl, refl)
 pub half-counts : Counts binary32 half H
 unfolding ofBits
 half-counts = (refl, refl)
+
+-- ---- what exceeds M by 4 E at most rounds to at most 1
+to-one : R (M + 4 * E) M ≡ f1
+unfolding round ofBits
+to-one = refl
+
+pub up-to-one : (n : ℕ) → n ≤ M + 4 * E → AtMost 1 (R n M) × Unsigned (R n M)
+up-to-one n few =
+    let ok = round-counts binary32 n M (bounded n M M-pos (le-trans few (lit≤ tt))) in
+    let last = counts-le binary32 (R n M) f1 (grid binary32 n M) M ok one-counts (subst (λ (z : Float). T (le (R n M) z)) to-one (round-mono binary32 n M (M + 4 * E) M M-pos M-pos (mul-le-mul-right M few))) in
+    (at-most-count binary32 1 (R n M) (grid binary32 n M) ok (le-trans last (le-of-eq (sym (one-mul M)))), round-unsigned binary32 n M)
 
 -- ---- M - a
 pub complement : (a : ℕ) → a ≤ M → Fine E U H M a → Complement E U H M a (grid binary32 (M - a) M)
