@@ -142,17 +142,7 @@ pub sub-bound : (f : Format) (M N : ℕ) → M + N ≤ 2 ^ prec f → (x y : Flo
 unfolding sub
 sub-bound f M N P x y h k = add-bound f M N P x (neg y) h (neg-bound N y k)
 
--- ---- between bounds
-pub at-most-more : (M N : ℕ) (x : Float) → M ≤ N → AtMost M x → AtMost N x
-at-most-more M N nan h u = u
-at-most-more M N (inf s) h u = u
-at-most-more M N (fin s m e) h u = le-trans u (mul-le-mul-right (down e) h)
-
-pub cond-bound : (N : ℕ) (b : Bool) (x y : Float) → AtMost N x → AtMost N y → AtMost N (cond b x y)
-cond-bound N true x y h k = h
-cond-bound N false x y h k = k
-
--- the size does not turn on a zero's sign
+-- ---- the size does not turn on a zero's sign
 pub plain-bound : (N : ℕ) (x : Float) → AtMost N x → AtMost N (plain x)
 plain-bound N nan h = h
 plain-bound N (inf s) h = h

@@ -56,10 +56,6 @@ pub smaller-fits : (f : Format) (x y : Float) → T (fits f x) → T (fits f y) 
 unfolding smallerOf
 smaller-fits f x y h k = cond-fits f (isNan x) y (cond (lt y x) y x) k (cond-fits f (lt y x) y x k h)
 
-pub larger-fits : (f : Format) (x y : Float) → T (fits f x) → T (fits f y) → T (fits f (largerOf x y))
-unfolding largerOf
-larger-fits f x y h k = cond-fits f (isNan x) y (cond (lt x y) y x) k (cond-fits f (lt x y) y x k h)
-
 pub zero-fits : T (fits binary32 f0)
 zero-fits = ofBits-fits binary32 0
 

@@ -1,11 +1,11 @@
--- The sign of a difference: y - x is -(x - y), but for the sign of a zero; NaN and the infinities included. Over the format. Assumes nothing.
+-- The sign of a difference: y - x is -(x - y), but for the sign of a zero; and of a product: (-x) y is -(x y). NaN and the infinities included. Over the format. Assumes nothing.
 use mathlib.Core.Path.{_≡_, refl, sym, ap, _∙_}
 use mathlib.Core.Bool.{Bool, true, false, not, cond, _&&_}
 use Prim.Native.Nat.{ℕ, zero, suc, _+_, _-_, _*_, _/_, _%_, _^_, _≤_, _<_, compare}
 use native.Mathlib.Nat.{add-comm, mul-comm, mul-pos}
 use native.Mathlib.Omega.{arith}
-use lib.Dec.{ltb}
-use lib.Ieee.{Float, nan, inf, fin, Format, emax, prec, low, up, down, size, nearest, odd, units, round, sum, add, sub, neg}
+use lib.Dec.{ltb, eqb}
+use lib.Ieee.{Float, nan, inf, fin, Format, emax, prec, low, up, down, unlike, size, nearest, odd, units, round, sum, add, sub, mul, neg}
 use lib.Ieee.Fits.{down-pos}
 use borrow.Author.Tests.{ltb-true, ltb-false}
 use Rattle.ieee_laws.specs.Same.{plain, Same}
@@ -96,3 +96,29 @@ sub-flips f (fin s m e) (inf false) = refl
 sub-flips f (fin s m e) (fin t n d) =
     sum-flips f s t (m * up e * down d) (n * up d * down e) (down e * down d) (mul-pos (down-pos e) (down-pos d))
     ∙ ap (λ (z : ℕ). plain (neg (sum f t (n * up d * down e) (not s) (m * up e * down d) z))) (mul-comm (down e) (down d))
+
+-- ---- a product with one sign turned
+turned : (s t : Bool) → unlike (not s) t ≡ not (unlike s t)
+turned true true = refl
+turned true false = refl
+turned false true = refl
+turned false false = refl
+
+pub neg-times : (f : Format) (x y : Float) → mul f (neg x) y ≡ neg (mul f x y)
+unfolding mul neg
+neg-times f nan y = refl
+neg-times f (inf s) nan = refl
+neg-times f (inf s) (inf t) = ap inf (turned s t)
+neg-times f (inf s) (fin t n d) = go (eqb n 0)
+  where
+    go : (b : Bool) → cond b nan (inf (unlike (not s) t)) ≡ neg (cond b nan (inf (unlike s t)))
+    go true = refl
+    go false = ap inf (turned s t)
+neg-times f (fin s m e) nan = refl
+neg-times f (fin s m e) (inf t) = go (eqb m 0)
+  where
+    go : (b : Bool) → cond b nan (inf (unlike (not s) t)) ≡ neg (cond b nan (inf (unlike s t)))
+    go true = refl
+    go false = ap inf (turned s t)
+neg-times f (fin s m e) (fin t n d) =
+    ap (λ (b : Bool). round f b (m * up e * (n * up d)) (down e * down d)) (turned s t) ∙ round-neg f (unlike s t) (m * up e * (n * up d)) (down e * down d)

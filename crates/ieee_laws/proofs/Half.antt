@@ -46,14 +46,7 @@ round-near f a c C =
     subst (λ (z : ℕ). Near z n (c * 2 ^ k)) (ap (λ (z : ℕ). closest n (c * 2 ^ k) * z) (mul-comm c (2 ^ k)) ∙ sym (mul-assoc (closest n (c * 2 ^ k)) (2 ^ k) c))
     (closest-near n (c * 2 ^ k) (mul-pos C (pow-pos k)))
 
--- the unit: below 2 ^ prec smallest values it is the smallest value itself
-pub finest : (f : Format) (n c : ℕ) → n / c < 2 ^ prec f → drop (prec f) n c ≡ 0
-finest f n c h = none (size (n / c)) (prec f) (size-le (n / c) (prec f) h)
-  where
-    none : (z p : ℕ) → z ≤ p → z - p ≡ 0
-    none z p h = omega arith
-
--- and below 2 ^ (prec + j) of them it is at most 2 ^ j
+-- the unit: below 2 ^ (prec + j) smallest values it is at most 2 ^ j of them
 pub unit-at-most : (f : Format) (n c j : ℕ) → n / c < 2 ^ (prec f + j) → drop (prec f) n c ≤ j
 unit-at-most f n c j h = room (size (n / c)) (prec f) j (size-le (n / c) (prec f + j) h)
   where

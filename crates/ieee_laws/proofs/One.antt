@@ -7,7 +7,6 @@ use lib.Dec.{T}
 use lib.Ieee.{Float, nan, inf, fin, Format, up, down, unlike, round, mul, div, fits}
 use Rattle.ieee_laws.specs.Size.{one}
 use Rattle.float_steps.proofs.Number.{round-own}
-use Rattle.ieee_laws.proofs.Commute.{mul-commutes}
 
 pub unlike-false : (s : Bool) → unlike s false ≡ s
 unlike-false true = refl
@@ -19,9 +18,6 @@ times-one f nan h = refl
 times-one f (inf s) h = ap inf (unlike-false s)
 times-one f (fin s m e) h =
     (λ i. round f (unlike-false s i) (mul-one (m * up e) i) (mul-one (down e) i)) ∙ round-own f s m e h
-
-pub one-times : (f : Format) (x : Float) → T (fits f x) → mul f one x ≡ x
-one-times f x h = mul-commutes f one x ∙ times-one f x h
 
 pub over-one : (f : Format) (x : Float) → T (fits f x) → div f x one ≡ x
 unfolding div

@@ -2,15 +2,14 @@
 -- with one alpha 0, or both 1, alpha is W3C's. Assumes nothing.
 use mathlib.Core.Path.{refl, sym, ap, _∙_, subst}
 use mathlib.Core.Logic.{_⊎_, inl, inr}
-use mathlib.Core.Bool.{Bool, true, false, cond, _||_}
+use mathlib.Core.Bool.{Bool, true, false, _||_}
 use lib.Dec.{T, lit≤}
-use lib.Ieee.{Float, binary32, fits, lt, eq}
+use lib.Ieee.{Float, binary32, eq}
 use Rattle.float_steps.specs.Notation.{_⊕_, _⊖_, _⊗_, f0, f1}
-use Rattle.float_steps.specs.Order.{unitOf, clampOf}
+use Rattle.float_steps.specs.Order.{unitOf}
 use Rattle.ieee_laws.specs.Same.{plain, Same}
-use Rattle.ieee_laws.specs.Size.{AtMost}
-use Rattle.ieee_laws.proofs.Bound.{at-most-finite, mul-bound, add-bound, at-most-more, cond-bound}
-use Rattle.ieee_laws.proofs.Clamp.{unit-same, unit-fits}
+use Rattle.ieee_laws.proofs.Bound.{at-most-finite, mul-bound, add-bound}
+use Rattle.ieee_laws.proofs.Clamp.{unit-same, unit-kept}
 use Rattle.operators.specs.declared.Convention.{Convention}
 use Rattle.operators.specs.declared.Convention.the-variants.{Premult, Divided, OnPremult, PremultOnly}
 use Rattle.operators.specs.Conventions.{convention}
@@ -22,8 +21,8 @@ use Rattle.public.specs.Operators.{Colour, at, blendOp}
 use Rattle.public.specs.BlendDifferences.{union, printed, spread, coBy, overUnion, storedBy, StoredOutside}
 use Rattle.public.specs.Range.{InUnit, InUnits, opaque, absent}
 use Rattle.public.proofs.Constants.{is-zero, is-one}
-use Rattle.public.proofs.InRange.{at-most-one, finite-of, complement-in, zero-in, one-in, unit-at, held-of}
-use Rattle.public.proofs.BlendRange.{blend-fits, blend-bound}
+use Rattle.public.proofs.InRange.{at-most-one, finite-of, complement-in, unit-at, held-of}
+use Rattle.public.proofs.BlendRange.{blend-in}
 use Rattle.public.proofs.BlendEdges.{source-one, backdrop-one, source-zero, backdrop-zero, union-source-zero, union-backdrop-zero}
 use Rattle.public.proofs.Stored.{stored-is, union-alpha, over-union-same}
 
@@ -31,43 +30,38 @@ pub or-split : (a b : Bool) → T (a || b) → T a ⊎ T b
 or-split true b t = inl tt
 or-split false b t = inr t
 
-unit-bound : (x : Float) → AtMost 100 x → AtMost 100 (unitOf x)
-unfolding clampOf
-unit-bound x u =
-    let more : (y : Float) → InUnit y → AtMost 100 y = λ y p. at-most-more 1 100 y (lit≤ tt) (at-most-one p) in
-    cond-bound 100 (lt x f0) f0 (cond (lt f1 x) f1 x) (more f0 zero-in) (cond-bound 100 (lt f1 x) f1 x (more f1 one-in) u)
-
 module _ (s sa d da : Float) (ps : InUnit s) (psa : InUnit sa) (pd : InUnit d) (pda : InUnit da) where
   -- ---- the mixing of a blended colour v
-  full : (v : Float) → T (fits binary32 v) → T (opaque sa da) → Same (coBy spread v s sa d da) (coBy printed v s sa d da)
+  full : (v : Float) → InUnit v → T (opaque sa da) → Same (coBy spread v s sa d da) (coBy printed v s sa d da)
   full v h o = elim (or-split (eq sa f1) (eq da f1) o) [
     | inl e ↦ subst (λ (x : Float). Same (coBy spread v s x d da) (coBy printed v s x d da)) (sym (is-one sa (psa .held) e)) (source-one v s d da (pda .held) (finite-of pda) (finite-of pd))
-    | inr e ↦ subst (λ (x : Float). Same (coBy spread v s sa d x) (coBy printed v s sa d x)) (sym (is-one da (pda .held) e)) (backdrop-one v s d sa (psa .held) h (finite-of psa) (finite-of ps))
+    | inr e ↦ subst (λ (x : Float). Same (coBy spread v s sa d x) (coBy printed v s sa d x)) (sym (is-one da (pda .held) e)) (backdrop-one v s d sa (psa .held) (h .held) (finite-of psa) (finite-of ps))
   ]
 
-  none : (v : Float) → AtMost 100 v → T (absent sa da) → Same (coBy spread v s sa d da) (coBy printed v s sa d da)
+  none : (v : Float) → InUnit v → T (absent sa da) → Same (coBy spread v s sa d da) (coBy printed v s sa d da)
   none v u o = elim (or-split (eq sa f0) (eq da f0) o) [
     | inl e ↦
-        source-zero v s d sa da (is-zero sa (psa .held) e) (pda .held) (finite-of pda) (finite-of (complement-in pda)) (finite-of ps) (at-most-finite 100 v u)
-        (at-most-finite 101 ((f1 ⊖ da) ⊗ s ⊕ da ⊗ v)
-        (add-bound binary32 1 100 (lit≤ tt) ((f1 ⊖ da) ⊗ s) (da ⊗ v) (mul-bound binary32 1 1 (lit≤ tt) (f1 ⊖ da) s (at-most-one (complement-in pda)) (at-most-one ps)) (mul-bound binary32 1 100 (lit≤ tt) da v (at-most-one pda) u)))
-    | inr e ↦ backdrop-zero v s d sa da (is-zero da (pda .held) e) (psa .held) (ps .held) (finite-of psa) (finite-of (complement-in psa)) (at-most-finite 100 v u) (finite-of pd)
+        source-zero v s d sa da (is-zero sa (psa .held) e) (pda .held) (finite-of pda) (finite-of (complement-in pda)) (finite-of ps) (finite-of u)
+        (at-most-finite 2 ((f1 ⊖ da) ⊗ s ⊕ da ⊗ v)
+        (add-bound binary32 1 1 (lit≤ tt) ((f1 ⊖ da) ⊗ s) (da ⊗ v) (mul-bound binary32 1 1 (lit≤ tt) (f1 ⊖ da) s (at-most-one (complement-in pda)) (at-most-one ps)) (mul-bound binary32 1 1 (lit≤ tt) da v (at-most-one pda) (at-most-one u))))
+    | inr e ↦ backdrop-zero v s d sa da (is-zero da (pda .held) e) (psa .held) (ps .held) (finite-of psa) (finite-of (complement-in psa)) (finite-of u) (finite-of pd)
   ]
 
-  pub mixed-at-edge : (v : Float) → T (fits binary32 v) → AtMost 100 v → T (opaque sa da || absent sa da) → Same (coBy spread v s sa d da) (coBy printed v s sa d da)
-  mixed-at-edge v h u o = elim (or-split (opaque sa da) (absent sa da) o) [ inl e ↦ full v h e | inr e ↦ none v u e ]
+  pub mixed-at-edge : (v : Float) → InUnit v → T (opaque sa da || absent sa da) → Same (coBy spread v s sa d da) (coBy printed v s sa d da)
+  mixed-at-edge v u o = elim (or-split (opaque sa da) (absent sa da) o) [ inl e ↦ full v u e | inr e ↦ none v u e ]
 
   regrouped : (m : Mode) → T (opaque sa da || absent sa da) → (k : Convention) → Same (storedBy spread k m s sa d da) (storedBy printed k m s sa d da)
   regrouped m o Premult =
       let v = B m d s in
+      let u = blend-in m d s pd ps in
       unit-same (coBy spread (unitOf v) s sa d da) (coBy printed (unitOf v) s sa d da)
-      (mixed-at-edge (unitOf v) (unit-fits v (blend-fits m d s (pd .held) (ps .held))) (unit-bound v (blend-bound m d s pd ps)) o)
+      (mixed-at-edge (unitOf v) (subst InUnit (sym (unit-kept v (u .low) (u .high))) u) o)
   regrouped m o Divided =
       let v = B m d s in
       let x = coBy spread v s sa d da in
       let y = coBy printed v s sa d da in
       let a = union sa da in
-      unit-same (overUnion x a) (overUnion y a) (over-union-same s sa d da x y a (mixed-at-edge v (blend-fits m d s (pd .held) (ps .held)) (blend-bound m d s pd ps) o))
+      unit-same (overUnion x a) (overUnion y a) (over-union-same s sa d da x y a (mixed-at-edge v (blend-in m d s pd ps) o))
   regrouped m o OnPremult = refl
   regrouped m o PremultOnly = refl
 

@@ -1,4 +1,4 @@
--- W3C's B of two numbers from 0 to 1: it is an f32, all but SoftLight's stay within 0 to 1 as rounded, and all are finite. Assumes nothing.
+-- W3C's B of two numbers from 0 to 1: as rounded, it is one again. The modes with a proof of their own have a file each. Assumes nothing.
 use mathlib.Core.Path.{_≡_, refl, sym, ap, _∙_, subst}
 use mathlib.Core.Bool.{Bool, true, false, cond, _||_, _&&_, true≢false}
 use Prim.Native.Nat.{ℕ, zero, suc, _+_, _-_, _*_, _≤_, _<_}
@@ -6,76 +6,31 @@ use native.Mathlib.Nat.{le-trans, le-of-eq, mul-le-mul-right, mul-pos, mul-assoc
 use native.Mathlib.Omega.{arith}
 use lib.IntN.{ℤ}
 use lib.Dec.{T, ltb, eqb, lit≤}
-use lib.Ieee.{Float, nan, inf, fin, binary32, up, down, ofBits, add, sub, div, neg, sum, round, fits, lt, le, eq, isNan}
-use lib.Ieee.Fits.{mul-fits, add-fits, sub-fits, div-fits, cond-fits, down-pos}
+use lib.Ieee.{Float, nan, inf, fin, binary32, up, down, ofBits, add, sub, div, neg, sum, round, fits, lt, eq, isNan}
+use lib.Ieee.Fits.{sub-fits, div-fits, down-pos}
 use borrow.Author.Tests.{ltb-true, ltb-false, eq-eqb}
-use Rattle.float_steps.specs.Notation.{_⊕_, _⊖_, _⊗_, _⊘_, lit, f0, f1, f2, half}
+use Rattle.float_steps.specs.Notation.{_⊖_, _⊘_, f0, f1}
 use Rattle.float_steps.specs.Order.{smallerOf, largerOf}
-use Rattle.float_steps.specs.Root.{sqrtOf}
 use Rattle.float_steps.specs.Sign.{absOf}
 use Rattle.ieee_laws.specs.Same.{plain, Same}
 use Rattle.ieee_laws.specs.Size.{AtMost, Unsigned}
 use Rattle.ieee_laws.proofs.Zero.{plain-twice, sub-same, div-plain}
 use Rattle.ieee_laws.proofs.Order.{lt-same}
-use Rattle.ieee_laws.proofs.Bound.{mul-bound, add-bound, sub-bound, round-bound, round-unsigned, at-most-more, cond-bound, plain-bound, same-bound}
-use Rattle.ieee_laws.proofs.Clamp.{smaller-fits, larger-fits, zero-fits, one-fits}
+use Rattle.ieee_laws.proofs.Bound.{round-bound, round-unsigned, plain-bound, same-bound}
+use Rattle.ieee_laws.proofs.Clamp.{smaller-fits, one-fits}
 use Rattle.ieee_laws.proofs.Abs.{abs-fits, abs-bound, abs-unsigned}
-use Rattle.ieee_laws.proofs.Root.{root-bound}
-use Rattle.public.specs.Compositing.{Mode, multiply, screen, overlay, darken, lighten, colorDodge, colorBurn, hardLight, softLight, difference, exclusion, B, hardLightB, softLightB, D, colorDodgeB, colorBurnB}
+use Rattle.public.specs.Compositing.{Mode, multiply, screen, overlay, darken, lighten, colorDodge, colorBurn, hardLight, softLight, difference, exclusion, B, colorDodgeB, colorBurnB}
 use Rattle.public.specs.Range.{InUnit}
 use Rattle.public.proofs.InRange.{at-most-one, unsigned, not-below, in-unit, zero-in, one-in, cond-in, product-in, one-less, complement-in}
 use Rattle.public.proofs.Screen.{screen-in}
 use Rattle.public.proofs.Exclusion.{exclusion-in}
 use Rattle.public.proofs.HardLight.{hard-in}
+use Rattle.public.proofs.SoftLight.{soft-in}
 
--- ---- B is an f32
-hard-fits : (b s : Float) → T (fits binary32 (hardLightB b s))
-unfolding hardLightB
-hard-fits b s = cond-fits binary32 (le s half) (b ⊗ (f2 ⊗ s)) (b ⊕ (f2 ⊗ s ⊖ f1) ⊖ b ⊗ (f2 ⊗ s ⊖ f1)) (mul-fits binary32 b (f2 ⊗ s)) (sub-fits binary32 (b ⊕ (f2 ⊗ s ⊖ f1)) (b ⊗ (f2 ⊗ s ⊖ f1)))
-
-dodge-fits : (b s : Float) → T (fits binary32 (colorDodgeB b s))
-unfolding colorDodgeB
-dodge-fits b s =
-    cond-fits binary32 (eq b f0) f0 (cond (eq s f1) f1 (smallerOf f1 (b ⊘ (f1 ⊖ s)))) zero-fits
-    (cond-fits binary32 (eq s f1) f1 (smallerOf f1 (b ⊘ (f1 ⊖ s))) one-fits (smaller-fits binary32 f1 (b ⊘ (f1 ⊖ s)) one-fits (div-fits binary32 b (f1 ⊖ s))))
-
-burn-fits : (b s : Float) → T (fits binary32 (colorBurnB b s))
-unfolding colorBurnB
-burn-fits b s =
-    cond-fits binary32 (eq b f1) f1 (cond (eq s f0) f0 (f1 ⊖ smallerOf f1 ((f1 ⊖ b) ⊘ s))) one-fits
-    (cond-fits binary32 (eq s f0) f0 (f1 ⊖ smallerOf f1 ((f1 ⊖ b) ⊘ s)) zero-fits (sub-fits binary32 f1 (smallerOf f1 ((f1 ⊖ b) ⊘ s))))
-
-soft-fits : (b s : Float) → T (fits binary32 (softLightB b s))
-unfolding softLightB
-soft-fits b s =
-    cond-fits binary32 (le s half) (b ⊖ (f1 ⊖ f2 ⊗ s) ⊗ b ⊗ (f1 ⊖ b)) (b ⊕ (f2 ⊗ s ⊖ f1) ⊗ (D b ⊖ b)) (sub-fits binary32 b ((f1 ⊖ f2 ⊗ s) ⊗ b ⊗ (f1 ⊖ b)))
-    (add-fits binary32 b ((f2 ⊗ s ⊖ f1) ⊗ (D b ⊖ b)))
-
-pub blend-fits : (m : Mode) (b s : Float) → T (fits binary32 b) → T (fits binary32 s) → T (fits binary32 (B m b s))
-blend-fits multiply b s h k = mul-fits binary32 b s
-blend-fits screen b s h k = sub-fits binary32 (b ⊕ s) (b ⊗ s)
-blend-fits overlay b s h k = hard-fits s b
-blend-fits darken b s h k = smaller-fits binary32 b s h k
-blend-fits lighten b s h k = larger-fits binary32 b s h k
-blend-fits colorDodge b s h k = dodge-fits b s
-blend-fits colorBurn b s h k = burn-fits b s
-blend-fits hardLight b s h k = hard-fits b s
-blend-fits softLight b s h k = soft-fits b s
-blend-fits difference b s h k = abs-fits (b ⊖ s)
-blend-fits exclusion b s h k = sub-fits binary32 (b ⊕ s) (f2 ⊗ b ⊗ s)
-
--- ---- 0, 1 and 2
+-- ---- 1
 one-under : AtMost 1 f1
 unfolding ofBits
 one-under = lit≤ tt
-
-zero-under : AtMost 1 f0
-unfolding ofBits
-zero-under = lit≤ tt
-
-two-under : AtMost 2 f2
-unfolding ofBits
-two-under = lit≤ tt
 
 -- ---- the smaller of 1 and a quotient that is not negative
 below-one : (x : Float) → lt x f1 ≡ true → lt x f0 ≡ false → AtMost 1 x
@@ -227,80 +182,16 @@ difference-in b s p q =
     let u : AtMost 1 (b ⊖ s) = same-bound 1 (b ⊖ s) (plain b ⊖ plain s) e (apart-in (plain b) (plain s) (unsigned p) (unsigned q) (plain-bound 1 b (at-most-one p)) (plain-bound 1 s (at-most-one q))) in
     in-unit (absOf (b ⊖ s)) (abs-fits (b ⊖ s)) (not-below (absOf (b ⊖ s)) (abs-unsigned 1 (b ⊖ s) h u)) (abs-bound 1 (b ⊖ s) h u)
 
--- ---- the ten
-abbrev pub within : Mode → Bool
-within multiply = true
-within screen = true
-within overlay = true
-within darken = true
-within lighten = true
-within colorDodge = true
-within colorBurn = true
-within hardLight = true
-within softLight = false
-within difference = true
-within exclusion = true
-
-pub blend-in : (m : Mode) → T (within m) → (b s : Float) → InUnit b → InUnit s → InUnit (B m b s)
-blend-in multiply w b s p q = product-in p q
-blend-in screen w b s p q = screen-in p q
-blend-in overlay w b s p q = hard-in s b q p
-blend-in darken w b s p q = unfold smallerOf in cond-in (isNan b) s (cond (lt s b) s b) q (cond-in (lt s b) s b q p)
-blend-in lighten w b s p q = unfold largerOf in cond-in (isNan b) s (cond (lt b s) s b) q (cond-in (lt b s) s b q p)
-blend-in colorDodge w b s p q = dodge-in b s p q
-blend-in colorBurn w b s p q = burn-in b s p q
-blend-in hardLight w b s p q = hard-in b s p q
-blend-in softLight w b s p q = absurd w
-blend-in difference w b s p q = difference-in b s p q
-blend-in exclusion w b s p q = exclusion-in p q
-
--- ---- soft light
-lits : AtMost 16 (lit 0x4180_0000) × AtMost 12 (lit 0x4140_0000) × AtMost 4 (lit 0x4080_0000)
-unfolding ofBits
-lits = (lit≤ tt, lit≤ tt, lit≤ tt)
-
-curve-bound : (b : Float) → InUnit b → AtMost 32 (D b)
-unfolding D
-curve-bound b p =
-    let h = at-most-one p in
-    let x1 : AtMost 16 (lit 0x4180_0000 ⊗ b) = mul-bound binary32 16 1 (lit≤ tt) (lit 0x4180_0000) b (lits .0) h in
-    let x2 : AtMost 28 (lit 0x4180_0000 ⊗ b ⊖ lit 0x4140_0000) = sub-bound binary32 16 12 (lit≤ tt) (lit 0x4180_0000 ⊗ b) (lit 0x4140_0000) x1 (lits .1) in
-    let x3 : AtMost 28 ((lit 0x4180_0000 ⊗ b ⊖ lit 0x4140_0000) ⊗ b) = mul-bound binary32 28 1 (lit≤ tt) (lit 0x4180_0000 ⊗ b ⊖ lit 0x4140_0000) b x2 h in
-    let x4 : AtMost 32 ((lit 0x4180_0000 ⊗ b ⊖ lit 0x4140_0000) ⊗ b ⊕ lit 0x4080_0000) = add-bound binary32 28 4 (lit≤ tt) ((lit 0x4180_0000 ⊗ b ⊖ lit 0x4140_0000) ⊗ b) (lit 0x4080_0000) x3 (lits .2) in
-    cond-bound 32 (le b (lit 0x3e80_0000)) (((lit 0x4180_0000 ⊗ b ⊖ lit 0x4140_0000) ⊗ b ⊕ lit 0x4080_0000) ⊗ b) (sqrtOf b)
-    (mul-bound binary32 32 1 (lit≤ tt) ((lit 0x4180_0000 ⊗ b ⊖ lit 0x4140_0000) ⊗ b ⊕ lit 0x4080_0000) b x4 h)
-    (at-most-more 2 32 (sqrtOf b) (lit≤ tt) (root-bound b (unsigned p) h))
-
-soft-bound : (b s : Float) → InUnit b → InUnit s → AtMost 100 (softLightB b s)
-unfolding softLightB
-soft-bound b s p q =
-    let h = at-most-one p in
-    let k = at-most-one q in
-    let s2 : AtMost 2 (f2 ⊗ s) = mul-bound binary32 2 1 (lit≤ tt) f2 s two-under k in
-    let a1 : AtMost 3 (f1 ⊖ f2 ⊗ s) = sub-bound binary32 1 2 (lit≤ tt) f1 (f2 ⊗ s) one-under s2 in
-    let a2 : AtMost 3 ((f1 ⊖ f2 ⊗ s) ⊗ b) = mul-bound binary32 3 1 (lit≤ tt) (f1 ⊖ f2 ⊗ s) b a1 h in
-    let a3 : AtMost 2 (f1 ⊖ b) = sub-bound binary32 1 1 (lit≤ tt) f1 b one-under h in
-    let a4 : AtMost 6 ((f1 ⊖ f2 ⊗ s) ⊗ b ⊗ (f1 ⊖ b)) = mul-bound binary32 3 2 (lit≤ tt) ((f1 ⊖ f2 ⊗ s) ⊗ b) (f1 ⊖ b) a2 a3 in
-    let a5 : AtMost 7 (b ⊖ (f1 ⊖ f2 ⊗ s) ⊗ b ⊗ (f1 ⊖ b)) = sub-bound binary32 1 6 (lit≤ tt) b ((f1 ⊖ f2 ⊗ s) ⊗ b ⊗ (f1 ⊖ b)) h a4 in
-    let b1 : AtMost 3 (f2 ⊗ s ⊖ f1) = sub-bound binary32 2 1 (lit≤ tt) (f2 ⊗ s) f1 s2 one-under in
-    let b2 : AtMost 33 (D b ⊖ b) = sub-bound binary32 32 1 (lit≤ tt) (D b) b (curve-bound b p) h in
-    let b3 : AtMost 99 ((f2 ⊗ s ⊖ f1) ⊗ (D b ⊖ b)) = mul-bound binary32 3 33 (lit≤ tt) (f2 ⊗ s ⊖ f1) (D b ⊖ b) b1 b2 in
-    cond-bound 100 (le s half) (b ⊖ (f1 ⊖ f2 ⊗ s) ⊗ b ⊗ (f1 ⊖ b)) (b ⊕ (f2 ⊗ s ⊖ f1) ⊗ (D b ⊖ b))
-    (at-most-more 7 100 (b ⊖ (f1 ⊖ f2 ⊗ s) ⊗ b ⊗ (f1 ⊖ b)) (lit≤ tt) a5) (add-bound binary32 1 99 (lit≤ tt) b ((f2 ⊗ s ⊖ f1) ⊗ (D b ⊖ b)) h b3)
-
 -- ---- every mode
-small : (m : Mode) → T (within m) → (b s : Float) → InUnit b → InUnit s → AtMost 100 (B m b s)
-small m w b s p q = at-most-more 1 100 (B m b s) (lit≤ tt) (at-most-one (blend-in m w b s p q))
-
-pub blend-bound : (m : Mode) (b s : Float) → InUnit b → InUnit s → AtMost 100 (B m b s)
-blend-bound multiply b s p q = small multiply tt b s p q
-blend-bound screen b s p q = small screen tt b s p q
-blend-bound overlay b s p q = small overlay tt b s p q
-blend-bound darken b s p q = small darken tt b s p q
-blend-bound lighten b s p q = small lighten tt b s p q
-blend-bound colorDodge b s p q = small colorDodge tt b s p q
-blend-bound colorBurn b s p q = small colorBurn tt b s p q
-blend-bound hardLight b s p q = small hardLight tt b s p q
-blend-bound softLight b s p q = soft-bound b s p q
-blend-bound difference b s p q = small difference tt b s p q
-blend-bound exclusion b s p q = small exclusion tt b s p q
+pub blend-in : (m : Mode) (b s : Float) → InUnit b → InUnit s → InUnit (B m b s)
+blend-in multiply b s p q = product-in p q
+blend-in screen b s p q = screen-in p q
+blend-in overlay b s p q = hard-in s b q p
+blend-in darken b s p q = unfold smallerOf in cond-in (isNan b) s (cond (lt s b) s b) q (cond-in (lt s b) s b q p)
+blend-in lighten b s p q = unfold largerOf in cond-in (isNan b) s (cond (lt b s) s b) q (cond-in (lt b s) s b q p)
+blend-in colorDodge b s p q = dodge-in b s p q
+blend-in colorBurn b s p q = burn-in b s p q
+blend-in hardLight b s p q = hard-in b s p q
+blend-in softLight b s p q = soft-in b s p q
+blend-in difference b s p q = difference-in b s p q
+blend-in exclusion b s p q = exclusion-in p q

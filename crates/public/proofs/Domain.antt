@@ -10,17 +10,16 @@ use Rattle.float_steps.specs.Notation.{_⊕_, _⊖_, _⊗_, f0, f1, half}
 use Rattle.ieee_laws.specs.Same.{plain}
 use Rattle.ieee_laws.proofs.Zero.{plain-twice, times-zero, add-same}
 use Rattle.ieee_laws.proofs.Order.{lt-same}
-use Rattle.ieee_laws.proofs.Bound.{at-most-finite, add-unsigned}
+use Rattle.ieee_laws.proofs.Bound.{add-unsigned}
 use Rattle.public.specs.PorterDuff.{Operator, clear, A, B, AoverB, BoverA, AinB, BinA, AoutB, BoutA, AatopB, BatopA, AxorB, AplusB}
 use Rattle.public.specs.Compositing.{Mode, multiply, screen, overlay, darken, lighten, colorDodge, colorBurn, hardLight, softLight, difference, exclusion}
-use Rattle.public.specs.Compositing as W
 use Rattle.public.specs.FractionDifferences.{Cleared, ColourOutside, AlphaOutside}
 use Rattle.public.specs.BlendDifferences.{infinite, StoredOutside}
 use Rattle.public.specs.Range.{InUnit}
 use Rattle.public.proofs.Constants.{is-zero, none-left}
 use Rattle.public.proofs.LeftOut.{left-finite}
 use Rattle.public.proofs.InRange.{finite-of, unsigned, not-below, product-in, complement-in, one-in, doubles-in}
-use Rattle.public.proofs.BlendRange.{blend-bound}
+use Rattle.public.proofs.BlendRange.{blend-in}
 
 -- ---- Porter and Duff
 sum-not-below : {x y : Float} → InUnit x → InUnit y → lt (x ⊕ y) f0 ≡ false
@@ -116,7 +115,7 @@ module _ {s sa d da : Float} (ps : InUnit s) (psa : InUnit sa) (pd : InUnit d) (
   stored-outside colorBurn n = go (eq (sa ⊗ da) f0) refl n
     where
       go : (b : Bool) → eq (sa ⊗ da) f0 ≡ b → eq s f0 && (eq d f1 && not b) ≡ false → StoredOutside colorBurn s sa d da
-      go true k n = inr (inr (is-zero (sa ⊗ da) (product-in psa pda .held) (subst T (sym k) tt), at-most-finite 100 (W.B colorBurn d s) (blend-bound colorBurn d s pd ps)))
+      go true k n = inr (inr (is-zero (sa ⊗ da) (product-in psa pda .held) (subst T (sym k) tt), finite-of (blend-in colorBurn d s pd ps)))
       go false k n =
           inl (record { white = λ e. not-white (eq s f0) (eq d f1) (none-left s (ps .held) (ps .low) (subst T (sym e) tt)) n; below = λ e. absurd (true≢false (sym e ∙ ps .low)); above = λ k e. absurd (true≢false (sym e ∙ pd .high)) })
   stored-outside hardLight n = inl (not-infinite (eq s half) pd)

@@ -27,6 +27,7 @@ pub mod MixtureRange
 pub mod Screen
 pub mod Exclusion
 pub mod HardLight
+pub mod SoftLight
 -- Small things
 pub mod LeftOut
 pub mod Constants

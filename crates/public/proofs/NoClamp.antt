@@ -17,7 +17,7 @@ use Rattle.public.specs.Operators.{Colour, at, blendOp}
 use Rattle.public.specs.BlendDifferences.{spread, coBy}
 use Rattle.public.specs.Range.{InUnit, InUnits, opaque, absent}
 use Rattle.public.proofs.InRange.{unit-at, held-of, product-in, doubles-in}
-use Rattle.public.proofs.BlendRange.{blend-fits, blend-bound, blend-in}
+use Rattle.public.proofs.BlendRange.{blend-in}
 use Rattle.public.proofs.MixtureRange.{mixed-in}
 use Rattle.public.proofs.AtEdges.{mixed-at-edge}
 use Rattle.public.proofs.Stored.{stored-is}
@@ -47,10 +47,10 @@ module _ (p : Params) (s d : Rgba) (ps : InUnits s) (pd : InUnits d) (c : Colour
       ∙ kept (coBy spread v (at c s) (s .a) (at c d) (d .a)) (mixed-in pv (unit-at c s ps) (ps .a) (unit-at c d pd) (pd .a))
 
   pub no-clamp : (m : Mode) → T (mixes m) → Same (at c (pixelOf (blendOp m) p s d)) (coBy spread (B m (at c d) (at c s)) (at c s) (s .a) (at c d) (d .a))
-  no-clamp multiply w = stored-is p s d multiply (held-of s ps) (held-of d pd) c (inl tt) ∙ ap plain (twice-kept (B multiply (at c d) (at c s)) (blend-in multiply tt (at c d) (at c s) (unit-at c d pd) (unit-at c s ps)))
-  no-clamp screen w = stored-is p s d screen (held-of s ps) (held-of d pd) c (inl tt) ∙ ap plain (twice-kept (B screen (at c d) (at c s)) (blend-in screen tt (at c d) (at c s) (unit-at c d pd) (unit-at c s ps)))
-  no-clamp lighten w = stored-is p s d lighten (held-of s ps) (held-of d pd) c (inl tt) ∙ ap plain (twice-kept (B lighten (at c d) (at c s)) (blend-in lighten tt (at c d) (at c s) (unit-at c d pd) (unit-at c s ps)))
-  no-clamp difference w = stored-is p s d difference (held-of s ps) (held-of d pd) c (inl tt) ∙ ap plain (twice-kept (B difference (at c d) (at c s)) (blend-in difference tt (at c d) (at c s) (unit-at c d pd) (unit-at c s ps)))
+  no-clamp multiply w = stored-is p s d multiply (held-of s ps) (held-of d pd) c (inl tt) ∙ ap plain (twice-kept (B multiply (at c d) (at c s)) (blend-in multiply (at c d) (at c s) (unit-at c d pd) (unit-at c s ps)))
+  no-clamp screen w = stored-is p s d screen (held-of s ps) (held-of d pd) c (inl tt) ∙ ap plain (twice-kept (B screen (at c d) (at c s)) (blend-in screen (at c d) (at c s) (unit-at c d pd) (unit-at c s ps)))
+  no-clamp lighten w = stored-is p s d lighten (held-of s ps) (held-of d pd) c (inl tt) ∙ ap plain (twice-kept (B lighten (at c d) (at c s)) (blend-in lighten (at c d) (at c s) (unit-at c d pd) (unit-at c s ps)))
+  no-clamp difference w = stored-is p s d difference (held-of s ps) (held-of d pd) c (inl tt) ∙ ap plain (twice-kept (B difference (at c d) (at c s)) (blend-in difference (at c d) (at c s) (unit-at c d pd) (unit-at c s ps)))
   no-clamp overlay w = absurd w
   no-clamp darken w = absurd w
   no-clamp colorDodge w = absurd w
@@ -64,11 +64,11 @@ module _ (p : Params) (s d : Rgba) (ps : InUnits s) (pd : InUnits d) (c : Colour
       let b = unit-at c d pd in
       let f = unit-at c s ps in
       no-clamp m w
-      ∙ mixed-at-edge (at c s) (s .a) (at c d) (d .a) f (ps .a) b (pd .a) (B m (at c d) (at c s)) (blend-fits m (at c d) (at c s) (b .held) (f .held)) (blend-bound m (at c d) (at c s) b f) o
+      ∙ mixed-at-edge (at c s) (s .a) (at c d) (d .a) f (ps .a) b (pd .a) (B m (at c d) (at c s)) (blend-in m (at c d) (at c s) b f) o
 
   pub exclusion-no-clamp : Same (at c (pixelOf (blendOp exclusion) p s d)) (B exclusion (at c d ⊗ d .a) (at c s ⊗ s .a))
   exclusion-no-clamp =
       let x = product-in (unit-at c s ps) (ps .a) in
       let y = product-in (unit-at c d pd) (pd .a) in
       let v = B exclusion (at c d ⊗ d .a) (at c s ⊗ s .a) in
-      stored-is p s d exclusion (held-of s ps) (held-of d pd) c (inl (doubles-in x, doubles-in y)) ∙ ap plain (kept v (blend-in exclusion tt (at c d ⊗ d .a) (at c s ⊗ s .a) y x))
+      stored-is p s d exclusion (held-of s ps) (held-of d pd) c (inl (doubles-in x, doubles-in y)) ∙ ap plain (kept v (blend-in exclusion (at c d ⊗ d .a) (at c s ⊗ s .a) y x))

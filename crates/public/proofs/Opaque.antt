@@ -1,4 +1,4 @@
--- Two opaque pixels of numbers from 0 to 1: every mode is W3C's printed formula, clamped, and all but SoftLight are it with no clamp to be seen. Alpha is W3C's. Assumes nothing.
+-- Two opaque pixels of numbers from 0 to 1: every mode is W3C's printed formula, with no clamp to be seen. Alpha is W3C's. Assumes nothing.
 use mathlib.Core.Path.{_≡_, refl, sym, ap, _∙_}
 use mathlib.Core.Bool.{Bool, cond}
 use lib.Dec.{T}
@@ -21,7 +21,7 @@ use Rattle.public.specs.BlendDifferences.{union, uncovered, spread, coBy
 use Rattle.public.specs.Range.{InUnit, InUnits}
 use Rattle.public.proofs.Constants.{zero-below-one, by-one, one-by, divided-by-one, nought}
 use Rattle.public.proofs.InRange.{finite-of, one-in, unit-at, held-of}
-use Rattle.public.proofs.BlendRange.{blend-fits, within, blend-in}
+use Rattle.public.proofs.BlendRange.{blend-in}
 use Rattle.public.proofs.BlendEdges.{second, source-one, union-both-one}
 use Rattle.public.proofs.Stored.{stored-is, union-alpha}
 
@@ -48,21 +48,21 @@ module _ (s d : Float) (ps : InUnit s) (pd : InUnit d) where
 
   -- W3C's own formula gives B
   co-is : (m : Mode) → Same (co m s f1 d f1) (B m d s)
-  co-is m = let v = B m d s in sym (source-one v s d f1 one-fits (finite-of one-in) (finite-of pd)) ∙ just v (blend-fits m d s (pd .held) (ps .held))
+  co-is m = let v = B m d s in sym (source-one v s d f1 one-fits (finite-of one-in) (finite-of pd)) ∙ just v (blend-in m d s pd ps .held)
 
   -- and each convention stores the clamped B
   stored : (k : Convention) (m : Mode) → Same (storedBy spread k m s f1 d f1) (unitOf (B m d s))
   stored Premult m =
       let v = unitOf (B m d s) in
-      unit-same (coBy spread v s f1 d f1) v (just v (unit-fits (B m d s) (blend-fits m d s (pd .held) (ps .held)))) ∙ ap plain (unit-twice (B m d s))
+      unit-same (coBy spread v s f1 d f1) v (just v (unit-fits (B m d s) (blend-in m d s pd ps .held))) ∙ ap plain (unit-twice (B m d s))
   stored Divided m =
       let v = B m d s in
       let x = coBy spread v s f1 d f1 in
-      ap (λ (z : Float). plain (unitOf z)) (undivided x (add-fits binary32 (f1 ⊗ f1 ⊗ v) t)) ∙ unit-same x v (just v (blend-fits m d s (pd .held) (ps .held)))
+      ap (λ (z : Float). plain (unitOf z)) (undivided x (add-fits binary32 (f1 ⊗ f1 ⊗ v) t)) ∙ unit-same x v (just v (blend-in m d s pd ps .held))
   stored OnPremult m =
       let v = unitOf (B m d s) in
       (λ i. plain (unitOf (unitOf (B m (by-one d (pd .held) i) (by-one s (ps .held) i)) ⊕ t)))
-      ∙ unit-same (v ⊕ t) v (plus-zero binary32 v t (unit-fits (B m d s) (blend-fits m d s (pd .held) (ps .held))) all-covered)
+      ∙ unit-same (v ⊕ t) v (plus-zero binary32 v t (unit-fits (B m d s) (blend-in m d s pd ps .held)) all-covered)
       ∙ ap plain (unit-twice (B m d s))
   stored PremultOnly m = λ i. plain (unitOf (B m (by-one d (pd .held) i) (by-one s (ps .held) i)))
 
@@ -73,12 +73,9 @@ module _ (p : Params) (s d : Rgba) (ps : InUnits s) (pd : InUnits d) (es : s .a 
       ∙ (λ i. plain (storedBy spread (convention (blendOp m)) m (at c s) (es i) (at c d) (ed i)))
       ∙ stored (at c s) (at c d) (unit-at c s ps) (unit-at c d pd) (convention (blendOp m)) m
 
-  pub opaque-is : StoredOutside m (at c s) (s .a) (at c d) (d .a) → Same (at c (pixelOf (blendOp m) p s d)) (unitOf (co m (at c s) f1 (at c d) f1))
-  opaque-is x = blend x ∙ sym (unit-same (co m (at c s) f1 (at c d) f1) (B m (at c d) (at c s)) (co-is (at c s) (at c d) (unit-at c s ps) (unit-at c d pd) m))
-
-  pub opaque-exact : T (within m) → StoredOutside m (at c s) (s .a) (at c d) (d .a) → Same (at c (pixelOf (blendOp m) p s d)) (co m (at c s) f1 (at c d) f1)
-  opaque-exact w x =
-      let q = blend-in m w (at c d) (at c s) (unit-at c d pd) (unit-at c s ps) in
+  pub opaque-exact : StoredOutside m (at c s) (s .a) (at c d) (d .a) → Same (at c (pixelOf (blendOp m) p s d)) (co m (at c s) f1 (at c d) f1)
+  opaque-exact x =
+      let q = blend-in m (at c d) (at c s) (unit-at c d pd) (unit-at c s ps) in
       blend x ∙ ap plain (unit-kept (B m (at c d) (at c s)) (q .low) (q .high)) ∙ sym (co-is (at c s) (at c d) (unit-at c s ps) (unit-at c d pd) m)
 
   pub opaque-alpha : pixelOf (blendOp m) p s d .a ≡ αo f1 f1
