@@ -113,10 +113,9 @@ soft-light : (s d : Float) → softLightOf s d ≡ softLightB d s
 unfolding softLightOf softLightB curveOf D
 soft-light s d = refl
 
-exclusion-is : (s d : Float) → T (fits binary32 s) → T (fits binary32 d) → T (doubles binary32 s) → T (doubles binary32 d) → s ⊕ d ⊖ f2 ⊗ s ⊗ d ≡ d ⊕ s ⊖ f2 ⊗ d ⊗ s
-exclusion-is s d p q h k =
-    let e : f2 ⊗ s ⊗ d ≡ f2 ⊗ d ⊗ s = ap (λ (w : Float). w ⊗ s ⊗ d) two-is ∙ twice-moves binary32 s d p q h k ∙ sym (ap (λ (w : Float). w ⊗ d ⊗ s) two-is) in
-    λ i. add-commutes binary32 s d i ⊖ e i
+-- ---- exclusion: the double may move from the one colour to the other, if neither overflows
+pub doubled-alike : (s d : Float) → T (fits binary32 s) → T (fits binary32 d) → T (doubles binary32 s) → T (doubles binary32 d) → Same (f2 ⊗ s ⊗ d) (f2 ⊗ d ⊗ s)
+doubled-alike s d p q h k = ap plain (ap (λ (w : Float). w ⊗ s ⊗ d) two-is ∙ twice-moves binary32 s d p q h k ∙ sym (ap (λ (w : Float). w ⊗ d ⊗ s) two-is))
 
 -- the blends that are W3C's to a zero's sign, for all values
 abbrev pub alike : Mode → Bool
@@ -156,4 +155,4 @@ blend-is colorBurn a s d p q x = color-burn s d x
 blend-is hardLight a s d p q x = hard-light s d p q x
 blend-is softLight a s d p q x = ap plain (blend-exact softLight tt a s d)
 blend-is difference a s d p q x = ap plain (blend-exact difference tt a s d)
-blend-is exclusion a s d p q x = ap plain (exclusion-is s d p q (x .0) (x .1))
+blend-is exclusion a s d p q x = sub-same binary32 (s ⊕ d) (d ⊕ s) (f2 ⊗ s ⊗ d) (f2 ⊗ d ⊗ s) (ap plain (add-commutes binary32 s d)) x

@@ -4,12 +4,10 @@
 use mathlib.Core.Path.{_≡_}
 use mathlib.Core.Logic.{_⊎_, inl}
 use mathlib.Core.Bool.{false, _&&_}
-use lib.Dec.{T}
-use lib.Ieee.{Float, binary32, eq}
-use Rattle.float_steps.specs.Notation.{_⊕_, _⊗_, half}
+use lib.Ieee.{Float, eq}
+use Rattle.float_steps.specs.Notation.{_⊕_, _⊗_, f2, half}
 use Rattle.float_steps.specs.Order.{unitOf}
 use Rattle.ieee_laws.specs.Same.{Same}
-use Rattle.ieee_laws.specs.Size.{doubles}
 use Rattle.operators.specs.declared.CompositeOp.{CompositeOp}
 use Rattle.operators.specs.declared.CompositeOp.the-variants as O
 use Rattle.operators.specs.declared.Convention.the-variants.{Divided}
@@ -79,5 +77,5 @@ module _ (p : Params) (s d : Rgba) (hs : Held s) (hd : Held d) (c : Colour) wher
   pub darken-is : Same (C O.Darken) (unitOf (unitOf (B darken (Cb ⊗ d .a) (Cs ⊗ s .a)) ⊕ uncovered Cs (s .a) Cb (d .a))) × (α O.Darken ≡ αu)
   darken-is = (stored-is p s d darken hs hd c (inl tt), union-alpha p s d darken)
 
-  pub exclusion-is : (T (doubles binary32 (Cs ⊗ s .a)) × T (doubles binary32 (Cb ⊗ d .a)) → Same (C O.Exclusion) (unitOf (B exclusion (Cb ⊗ d .a) (Cs ⊗ s .a)))) × (α O.Exclusion ≡ αu)
+  pub exclusion-is : (Same (f2 ⊗ (Cs ⊗ s .a) ⊗ (Cb ⊗ d .a)) (f2 ⊗ (Cb ⊗ d .a) ⊗ (Cs ⊗ s .a)) → Same (C O.Exclusion) (unitOf (B exclusion (Cb ⊗ d .a) (Cs ⊗ s .a)))) × (α O.Exclusion ≡ αu)
   exclusion-is = (λ x. stored-is p s d exclusion hs hd c (inl x), union-alpha p s d exclusion)

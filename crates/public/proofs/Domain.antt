@@ -20,6 +20,7 @@ use Rattle.public.proofs.Constants.{is-zero, none-left}
 use Rattle.public.proofs.LeftOut.{left-finite}
 use Rattle.public.proofs.InRange.{finite-of, unsigned, not-below, product-in, complement-in, one-in, doubles-in}
 use Rattle.public.proofs.BlendRange.{blend-in}
+use Rattle.public.proofs.Blends.{doubled-alike}
 
 -- ---- Porter and Duff
 sum-not-below : {x y : Float} → InUnit x → InUnit y → lt (x ⊕ y) f0 ≡ false
@@ -121,4 +122,10 @@ module _ {s sa d da : Float} (ps : InUnit s) (psa : InUnit sa) (pd : InUnit d) (
   stored-outside hardLight n = inl (not-infinite (eq s half) pd)
   stored-outside softLight n = inl tt
   stored-outside difference n = inl tt
-  stored-outside exclusion n = inl (doubles-in (product-in ps psa), doubles-in (product-in pd pda))
+  stored-outside exclusion n = inl (doubled-alike (s ⊗ sa) (d ⊗ da) (x .held) (y .held) (doubles-in x) (doubles-in y))
+    where
+      x : InUnit (s ⊗ sa)
+      x = product-in ps psa
+
+      y : InUnit (d ⊗ da)
+      y = product-in pd pda

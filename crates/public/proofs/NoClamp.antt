@@ -18,6 +18,7 @@ use Rattle.public.specs.BlendDifferences.{spread, coBy}
 use Rattle.public.specs.Range.{InUnit, InUnits, opaque, absent}
 use Rattle.public.proofs.InRange.{unit-at, held-of, product-in, doubles-in}
 use Rattle.public.proofs.BlendRange.{blend-in}
+use Rattle.public.proofs.Blends.{doubled-alike}
 use Rattle.public.proofs.MixtureRange.{mixed-in}
 use Rattle.public.proofs.AtEdges.{mixed-at-edge}
 use Rattle.public.proofs.Stored.{stored-is}
@@ -71,4 +72,4 @@ module _ (p : Params) (s d : Rgba) (ps : InUnits s) (pd : InUnits d) (c : Colour
       let x = product-in (unit-at c s ps) (ps .a) in
       let y = product-in (unit-at c d pd) (pd .a) in
       let v = B exclusion (at c d ⊗ d .a) (at c s ⊗ s .a) in
-      stored-is p s d exclusion (held-of s ps) (held-of d pd) c (inl (doubles-in x, doubles-in y)) ∙ ap plain (kept v (blend-in exclusion (at c d ⊗ d .a) (at c s ⊗ s .a) y x))
+      stored-is p s d exclusion (held-of s ps) (held-of d pd) c (inl (doubled-alike (at c s ⊗ s .a) (at c d ⊗ d .a) (x .held) (y .held) (doubles-in x) (doubles-in y))) ∙ ap plain (kept v (blend-in exclusion (at c d ⊗ d .a) (at c s ⊗ s .a) y x))

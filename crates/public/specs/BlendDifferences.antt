@@ -4,15 +4,14 @@ use mathlib.Core.Path.{_≡_}
 use mathlib.Core.Logic.{_⊎_}
 use mathlib.Core.Bool.{Bool, true, false, cond, _&&_}
 use lib.Dec.{T}
-use lib.Ieee.{Float, nan, inf, fin, binary32, lt, le, eq}
+use lib.Ieee.{Float, nan, inf, fin, lt, le, eq}
 use lib.Ieee.Scale.{finite}
 use Rattle.operators.specs.declared.Convention.{Convention}
 use Rattle.operators.specs.declared.Convention.the-variants.{Premult, Divided, OnPremult, PremultOnly}
 use Rattle.operators.specs.Conventions.{convention}
-use Rattle.float_steps.specs.Notation.{_⊕_, _⊖_, _⊗_, _⊘_, f0, f1, half}
+use Rattle.float_steps.specs.Notation.{_⊕_, _⊖_, _⊗_, _⊘_, f0, f1, f2, half}
 use Rattle.float_steps.specs.Order.{smallerOf, unitOf}
 use Rattle.ieee_laws.specs.Same.{Same, Zero}
-use Rattle.ieee_laws.specs.Size.{doubles}
 use Rattle.public.specs.Compositing.{Mode, multiply, screen, overlay, darken, lighten, colorDodge, colorBurn, hardLight, softLight, difference, exclusion, B, coWith}
 use Rattle.public.specs.Operators.{blendOp}
 
@@ -75,7 +74,7 @@ pub record BurnOutside (Cs Cb : Float) : Type 0 where
   pub above : le Cs f0 ≡ false → lt f1 Cb ≡ true → Same (burnt Cb Cs) f1
 
 -- The blends are equal where this holds, and but for Exclusion only there. A half: the compositor takes the second branch, which is W3C's first but where the other colour is
--- infinite. Exclusion doubles the other colour.
+-- infinite. Exclusion doubles the other colour, which is no difference short of overflow (`doubled-alike`, Blends.antt).
 abbrev pub BlendOutside : Mode → Float → Float → Type 0
 BlendOutside multiply Cs Cb = Unit {0}
 BlendOutside screen Cs Cb = Unit {0}
@@ -87,7 +86,7 @@ BlendOutside colorBurn Cs Cb = BurnOutside Cs Cb
 BlendOutside hardLight Cs Cb = eq Cs half && infinite Cb ≡ false
 BlendOutside softLight Cs Cb = Unit {0}
 BlendOutside difference Cs Cb = Unit {0}
-BlendOutside exclusion Cs Cb = T (doubles binary32 Cs) × T (doubles binary32 Cb)
+BlendOutside exclusion Cs Cb = Same (f2 ⊗ Cs ⊗ Cb) (f2 ⊗ Cb ⊗ Cs)
 
 -- In the modes that divide, a blended colour v does not show where nothing is covered, nor where the two pictures do not overlap and v is finite
 abbrev pub Unseen : Convention → Float → Float → Float → Type 0
