@@ -31,8 +31,11 @@ const GRAVITIES: [(&str, Gravity); 10] = [
 ];
 
 fn numbers<T: FromStr>(list: &str) -> Result<Vec<T>> {
-    let number = |text: &str| text.parse().ok().with_context(|| format!("{text} is no number here"));
-    list.split(',').filter(|text| !text.is_empty()).map(number).collect()
+    let number = |text: &str| text.parse().ok().with_context(|| format!("`{text}` is no number here"));
+    if list.is_empty() {
+        return Ok(vec![]);
+    }
+    list.split(',').map(number).collect()
 }
 
 fn gravity(name: &str) -> Result<Gravity> {
@@ -95,9 +98,16 @@ mod tests {
         for line in ["", "over", "nothing a.png", "over a.png at=1", "over a.png gravity=up", "over a.png channels=x"] {
             assert!(line.parse::<Line>().is_err(), "{line}");
         }
-        for line in ["over a.png big", "over a.png args=1,2,3,4,5", "over a.png at=x,y"] {
+        for line in [
+            "over a.png big",
+            "over a.png args=1,2,3,4,5",
+            "over a.png at=x,y",
+            "over a.png at=1,,2",
+            "over a.png args=1,",
+        ] {
             assert!(line.parse::<Line>().is_err(), "{line}");
         }
+        assert!("over a.png args=".parse::<Line>().unwrap().layer.arguments.is_empty());
         let error = "nothing a.png".parse::<Line>().unwrap_err();
         assert_eq!(format!("{error:#}"), "nothing: refused: 3 OPERATOR: no such operator");
     }

@@ -5,9 +5,6 @@ mod folder;
 mod layers;
 mod make;
 mod mapped;
-mod pfm;
-mod picture;
-mod png_file;
 mod run;
 mod status;
 

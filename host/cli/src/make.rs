@@ -2,12 +2,12 @@
 
 use crate::folder::Folder;
 use crate::layers::Line;
-use crate::picture::{self, Picture};
 use anyhow::{ensure, Context, Result};
 use clap::Args;
 use std::collections::HashMap;
 use std::path::{Path, PathBuf};
 use tray::{Inputs, Layer, Memory, Source, Stack};
+use tray_cli::picture::{self, Picture};
 
 #[derive(Args)]
 pub struct Make {
@@ -22,7 +22,7 @@ pub struct Make {
     /// A layer, lowest first: 'OPERATOR PICTURE [at=RIGHT,DOWN] [gravity=NAME] [channels=rgba] [args=A,B] [tile] [overlay]'
     #[arg(long = "layer", value_name = "LINE")]
     layer: Vec<String>,
-    /// A file with a layer a line, as for --layer; pictures are looked for beside it; lines that begin with # are notes
+    /// A file with a layer a line, as for --layer; pictures are looked for beside it; lines that begin with # are notes, blank lines nothing
     #[arg(long, value_name = "FILE")]
     layers: Option<PathBuf>,
 }
@@ -62,7 +62,8 @@ impl Make {
         if let Some(path) = &self.layers {
             let text = std::fs::read_to_string(path).with_context(|| path.display().to_string())?;
             let beside = path.parent().unwrap_or(Path::new(""));
-            for (n, text) in text.lines().enumerate().filter(|(_, text)| !text.starts_with('#')) {
+            let blank = |text: &str| text.trim().is_empty() || text.starts_with('#');
+            for (n, text) in text.lines().enumerate().filter(|(_, text)| !blank(text)) {
                 let mut line: Line = text.parse().with_context(|| format!("{} line {}", path.display(), n + 1))?;
                 line.picture = beside.join(&line.picture);
                 lines.push(line);

@@ -49,7 +49,7 @@ fn map<M, T>(length: usize, path: &Path, map: impl Fn() -> std::io::Result<M>) -
 fn measured<T>(file: std::io::Result<File>, path: &Path, length: usize) -> Result<File> {
     let file = file.with_context(|| path.display().to_string())?;
     let bytes = file.metadata()?.len();
-    let wanted = length as u64 * std::mem::size_of::<T>() as u64;
-    ensure!(bytes == wanted, "{}: has {bytes} bytes, not {wanted}", path.display());
+    let wanted = length as u128 * std::mem::size_of::<T>() as u128;
+    ensure!(bytes as u128 == wanted, "{}: has {bytes} bytes, not {wanted}", path.display());
     Ok(file)
 }

@@ -1,14 +1,18 @@
 //! PNG. A sample of 8 or 16 bits is read as the fraction of its largest value.
 
 use crate::picture::Picture;
-use anyhow::{bail, Result};
+use anyhow::{bail, ensure, Result};
 use png::{AdaptiveFilterType, BitDepth, ColorType, Compression, Decoder, Encoder, FilterType, Transformations};
+use tray::SIDE;
 
 pub fn read(bytes: &[u8]) -> Result<Picture> {
     let mut decoder = Decoder::new(bytes);
     // Palettes and fewer than 8 bits become 8 bits a sample, a transparent colour becomes alpha.
     decoder.set_transformations(Transformations::EXPAND);
     let mut reader = decoder.read_info()?;
+    // A file of a few bytes may say that it is of any size; what the library would refuse anyway is not made room for.
+    let (width, height) = reader.info().size();
+    ensure!(width.max(height) as u64 <= SIDE, "{width} x {height} pixels, and a side has at most {SIDE}");
     let mut data = vec![0; reader.output_buffer_size()];
     let info = reader.next_frame(&mut data)?;
     data.truncate(info.buffer_size());

@@ -15,7 +15,7 @@ impl Status {
     pub fn print(self) -> Result<()> {
         let folder = Folder::open(&self.job)?;
         let (mark, total) = (folder.mark()?, folder.total());
-        let worker = if folder.lock()?.is_some() { "no worker" } else { "a worker has it" };
+        let worker = if folder.has_worker()? { "a worker has it" } else { "no worker" };
         let Folder { width, height, channels, layers, .. } = folder;
         println!("{}: {width} x {height} pixels, {channels} channels, {layers} layers; {worker}", self.job.display());
         let percent = if total == 0 { 100.0 } else { 100.0 * mark as f64 / total as f64 };

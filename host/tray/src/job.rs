@@ -28,7 +28,7 @@ pub fn job(inputs: &Inputs, allowance: u64, memory: Memory) -> Result<Progress, 
     }
 }
 
-/// The mark of a finished job: a pixel of the widened destination and of each layer counts one.
+/// The mark of a finished job, for sides and layers that the library accepts: a pixel of the widened destination and of each layer counts one.
 pub fn total(width: u64, height: u64, layers: u64) -> u64 {
     (layers + 1) * width * height
 }

@@ -3,19 +3,10 @@
 //!
 //!     wells FOLDER
 
-#[path = "../pfm.rs"]
-#[allow(dead_code)]
-mod pfm;
-#[path = "../picture.rs"]
-#[allow(dead_code)]
-mod picture;
-#[path = "../png_file.rs"]
-#[allow(dead_code)]
-mod png_file;
-
 use anyhow::{Context, Result};
 use std::fs::{self, File};
 use std::path::Path;
+use tray_cli::{pfm, png_file};
 
 const COLUMNS: usize = 12;
 const ROWS: usize = 8;

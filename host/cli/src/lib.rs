@@ -1,0 +1,5 @@
+//! Pictures as files, which the command and the demonstration's drawing share.
+
+pub mod pfm;
+pub mod picture;
+pub mod png_file;
