@@ -63,6 +63,8 @@ Job job_new(int64_t width, int64_t height, int64_t channels, int64_t layers, int
     job.pixels = width * height;
     job.dst_length = job.pixels * channels;
     job.samples_length = job.pixels * 4;
+    job.work_length[0] = job.work_length[1] = 4 * job.pixels;
+    job.mark_length = 1;
     job.dst = room(4 * job.dst_length);
     job.samples = room(4 * job.samples_length);
     job.before = room(32 * job.pixels);
@@ -100,11 +102,12 @@ void memory_begin(const Job *job, Memory memory) {
 }
 
 Answer job_call(const Job *job, Memory memory, uint64_t allowance) {
-    Answer answer = {0};
+    Answer answer;
+    memset(&answer, 0xee, sizeof answer);  // an answer that is not written shows
     answer.number = TESTED(
         job->width, job->height, job->channels, job->dst, job->dst_length, job->layers, job->table, 10 * job->layers,
-        job->args, 4 * job->layers, job->samples, job->samples_length, allowance, memory.work[0], 4 * job->pixels,
-        memory.work[1], 4 * job->pixels, memory.mark, 1, &answer.layer, &answer.stores, &answer.finished);
+        job->args, 4 * job->layers, job->samples, job->samples_length, allowance, memory.work[0], job->work_length[0],
+        memory.work[1], job->work_length[1], memory.mark, job->mark_length, &answer.layer, &answer.stores, &answer.finished);
     return answer;
 }
 

@@ -13,6 +13,7 @@ typedef struct {
     uint32_t *dst, *samples, args[4 * LAYERS];
     size_t dst_length, samples_length;
     int64_t table[10 * LAYERS];
+    size_t work_length[2], mark_length;  // what a call is told of the lists that it writes
     uint32_t *before;                    // what the two work buffers hold at first, one after the other
     uint32_t *picture[LAYERS + 1];       // the widened destination, then the result of each layer
 } Job;

@@ -35,8 +35,12 @@ static int run_and_kill(const Job *job, Memory memory, Life *life, double delay)
         life->ended = 1;
         _exit(0);
     }
+    if (worker < 0) {
+        printf("no process can be started\n");
+        exit(2);
+    }
     while (!life->begun) sched_yield();
-    nanosleep(&(struct timespec){.tv_nsec = delay}, 0);
+    nanosleep(&(struct timespec){.tv_sec = delay / 1e9, .tv_nsec = (long)delay % 1000000000}, 0);
     kill(worker, SIGKILL);
     waitpid(worker, 0, 0);
     return !life->ended;

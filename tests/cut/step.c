@@ -2,8 +2,8 @@
 // worker can be stopped. Memory must be what some number of stores leaves, never fewer than before.
 //
 // All 68 operators in jobs of up to 16 layers, on destinations of one, three and four channels, each job in one call; a
-// larger picture; a job in many short calls, which end inside pixels; a refused call for each fault from 1 to 8 and 10,
-// which must not write at all.
+// larger picture; a job in many short calls, which end inside pixels; refused calls for each fault from 1 to 10, which
+// must not write at all.
 // Ends with status 1 when a memory is no prefix of the store list, 77 where the system does not let a process be traced.
 #define _GNU_SOURCE
 #include "job.h"
@@ -32,6 +32,12 @@ static int same(const Job *job, Memory a, Memory b) {
     return *a.mark == *b.mark && !memcmp(a.work[0], b.work[0], 32 * job->pixels);
 }
 
+static void check(int right, const char *what) {
+    if (right) return;
+    printf("%s\n", what);
+    exit(1);
+}
+
 // A process that stops before its call and is traced from there.
 static pid_t start(const Job *job, Memory memory, uint64_t allowance, Answer *answer) {
     pid_t worker = fork();
@@ -42,9 +48,20 @@ static pid_t start(const Job *job, Memory memory, uint64_t allowance, Answer *an
         _exit(0);
     }
     int status;
-    waitpid(worker, &status, 0);
-    if (worker < 0 || WIFEXITED(status)) exit(CANNOT);
+    check(worker > 0 && waitpid(worker, &status, 0) == worker, "no process can be started");
+    if (WIFEXITED(status) && WEXITSTATUS(status) == CANNOT) exit(CANNOT);
+    check(WIFSTOPPED(status), "a worker does not stop before its call");
     return worker;
+}
+
+// One instruction more. Answers whether the worker goes on; it may end only by itself, and well.
+static int step(pid_t worker) {
+    int status;
+    check(!ptrace(PTRACE_SINGLESTEP, worker, 0, 0) && waitpid(worker, &status, 0) == worker, "a worker cannot be stepped");
+    if (WIFEXITED(status) && WEXITSTATUS(status) == 0) return 0;
+    check(WIFSTOPPED(status) && WSTOPSIG(status) == SIGTRAP, "the worker died");
+    steps++;
+    return 1;
 }
 
 // Steps one call; `expected` begins as a copy of `memory` after `made` stores and follows it to its end. Answers the
@@ -52,34 +69,19 @@ static pid_t start(const Job *job, Memory memory, uint64_t allowance, Answer *an
 static uint64_t step_call(const Job *job, Memory memory, Memory expected, uint64_t made, uint64_t allowance, Answer *answer) {
     pid_t worker = start(job, memory, allowance, answer);
     uint64_t most = allowance < 5 * job_end(job) - made ? made + allowance : 5 * job_end(job);
-    int status;
-    while (1) {
-        if (ptrace(PTRACE_SINGLESTEP, worker, 0, 0)) exit(CANNOT);
-        waitpid(worker, &status, 0);
-        if (WIFEXITED(status) || WIFSIGNALED(status)) break;
-        steps++;
+    while (step(worker)) {
         if (same(job, memory, expected)) continue;
         while (made < most && !same(job, memory, expected)) memory_store(job, expected, made++);
         if (!same(job, memory, expected)) {
             printf("after instruction %llu memory is no prefix of the store list (mark %llu)\n", (unsigned long long)steps,
                 (unsigned long long)*memory.mark);
             kill(worker, SIGKILL);
-            waitpid(worker, &status, 0);
+            waitpid(worker, 0, 0);
             exit(1);
         }
         seen++;
     }
-    if (!WIFEXITED(status) || WEXITSTATUS(status)) {
-        printf("the worker died\n");
-        exit(1);
-    }
     return made;
-}
-
-static void check(int right, const char *what) {
-    if (right) return;
-    printf("%s\n", what);
-    exit(1);
 }
 
 // A whole job, in calls of `allowance` stores each.
@@ -104,31 +106,33 @@ static void step_job(const Job *job, uint64_t allowance) {
     listed += 5 * end;
 }
 
-// A call that must be refused under `number` and may write nothing, whatever instruction it is stopped at.
-static void step_refused(Job job, uint64_t number, uint64_t layer) {
+// A call at a mark that must be refused under `number` and may write nothing, whatever instruction it is stopped at.
+static void step_refused(Job job, uint64_t mark, uint64_t number, uint64_t layer) {
     Memory memory = memory_at(&job, shared(memory_bytes(&job))), expected = memory_at(&job, shared(memory_bytes(&job)));
     Answer *answer = shared(sizeof *answer);
     memory_begin(&job, memory);
     memory_begin(&job, expected);
-    if (number == 10) *memory.mark = *expected.mark = job_end(&job) + 1;
+    *memory.mark = *expected.mark = mark;
     pid_t worker = start(&job, memory, 100, answer);
-    int status;
-    while (!ptrace(PTRACE_SINGLESTEP, worker, 0, 0) && waitpid(worker, &status, 0) == worker && WIFSTOPPED(status)) {
-        steps++;
-        check(same(&job, memory, expected), "a refused call wrote");
-    }
+    while (step(worker)) check(same(&job, memory, expected), "a refused call wrote");
     check(answer->number == number && answer->layer == layer, "a refused call answers another fault");
     check(answer->stores == 0 && answer->finished == 0, "a refused call answers stores, or finished");
 }
 
 static void refusals(Job job) {
-    Job wrong[] = {job, job, job, job, job, job, job, job, job};
+    Job wrong[] = {job, job, job, job, job, job, job, job, job, job, job, job};
     wrong[0].layers = 0;
     wrong[1].dst_length--;
     const struct { int column; int64_t value; } row[] = {{0, 70}, {0, 43}, {1, 10}, {4, 64}, {5, INT64_MAX}, {9, 5}};
     for (int i = 0; i < 6; i++) wrong[2 + i].table[10 * (i % 3) + row[i].column] = row[i].value;
-    for (int i = 0; i < 8; i++) step_refused(wrong[i], i + 1, i < 2 ? 0 : (i - 2) % 3);
-    step_refused(job, 10, 0);
+    for (int i = 0; i < 8; i++) step_refused(wrong[i], 0, i + 1, i < 2 ? 0 : (i - 2) % 3);
+    // Memory: each work buffer a word short, lists of no and of two marks, a mark beyond the end.
+    wrong[8].work_length[0]--;
+    wrong[9].work_length[1]--;
+    wrong[10].mark_length = 0;
+    wrong[11].mark_length = 2;
+    for (int i = 8; i < 12; i++) step_refused(wrong[i], 0, i < 10 ? 9 : 10, 0);
+    step_refused(job, job_end(&job) + 1, 10, 0);
 }
 
 // Tracer and traced take turns: on one processor they do so faster.
