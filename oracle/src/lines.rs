@@ -284,15 +284,30 @@ fn token<'a>(tokens: &mut Tokens<'a>) -> Result<&'a str, String> {
     tokens.next().ok_or_else(|| "the line ends too early".to_string())
 }
 
+/// A number, which has one spelling: no leading zero, no sign, no capital.
+fn spelt<T: Number>(token: &str) -> Result<T, String> {
+    let n = T::read(token)?;
+    if n.show() == token { Ok(n) } else { Err(format!("{token:?} is not how a number is written")) }
+}
+
 fn number<T: Number>(tokens: &mut Tokens) -> Result<T, String> {
-    T::read(token(tokens)?)
+    spelt(token(tokens)?)
+}
+
+/// A yes or no, which is 1 or 0.
+fn yes(tokens: &mut Tokens) -> Result<bool, String> {
+    match number(tokens)? {
+        0u64 => Ok(false),
+        1 => Ok(true),
+        n => Err(format!("{n:x} is neither 0 nor 1")),
+    }
 }
 
 /// The list, or the one that '=' stands for.
 fn shared<T: Number>(tokens: &mut Tokens, kept: &[T]) -> Result<Vec<T>, String> {
     match token(tokens)? {
         "=" => Ok(kept.to_vec()),
-        count => (0..usize::read(count)?).map(|_| number(tokens)).collect(),
+        count => (0..spelt::<usize>(count)?).map(|_| number(tokens)).collect(),
     }
 }
 
@@ -362,7 +377,7 @@ impl Reader {
                         number: number(tokens)?,
                         layer: number(tokens)?,
                         stores: number(tokens)?,
-                        finished: number::<u64>(tokens)? == 1,
+                        finished: yes(tokens)?,
                     };
                     answers.push((answer, number(tokens)?));
                 }
@@ -391,5 +406,30 @@ impl Reader {
             None => Ok(Some(Case { request, expected })),
             Some(rest) => Err(format!("{rest:?} stands after the line's end")),
         }
+    }
+}
+
+#[cfg(test)]
+mod tests {
+    use super::*;
+
+    #[test]
+    fn lines_out_of_form() {
+        let read = |line: &str| Reader::default().case(line);
+        assert!(read("F 2 6f 6b 3 0").unwrap().is_some());
+        for line in [
+            "F 2 6f 6b 3",
+            "F 2 6f 6b 3 0 0",
+            "F 02 6f 6b 3 0",
+            "F 2 6F 6b 3 0",
+            "F 2 +6f 6b 3 0",
+            "G 0",
+            "F 1 100 3 0",
+        ] {
+            assert!(read(line).is_err(), "{line}");
+        }
+        let call = |answer: &str| read(&format!("J 0 0 1 0 1 0 0 0 0 0 1 0 1 5 1 0 0 {answer} 0 = = ="));
+        assert!(call("0").is_ok() && call("1").is_ok());
+        assert!(call("2").is_err());
     }
 }

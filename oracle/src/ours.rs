@@ -1,5 +1,5 @@
-//! The proved library behind its C interface, as a side of a comparison. Built with TRAY_LIB in the
-//! environment (build.rs) this links libtray.a; without it there is no library, and `linked` answers none.
+//! The proved library behind its C interface (host/tray, raw.rs), as a side of a comparison. Built with the
+//! feature `tray` this links libtray.a; without it there is no library, and `linked` answers none.
 //!
 //! Every list is lent in the middle of a larger one. After each call the words around it, and every list that
 //! is lent for reading, must have the bits that they had: otherwise the comparison stops there.
@@ -8,66 +8,16 @@ use crate::request::Side;
 
 /// The library, if this build has it.
 pub fn linked() -> Option<Box<dyn Side>> {
-    #[cfg(tray)]
+    #[cfg(feature = "tray")]
     return Some(Box::new(library::Ours));
-    #[cfg(not(tray))]
+    #[cfg(not(feature = "tray"))]
     None
 }
 
-#[cfg(tray)]
+#[cfg(feature = "tray")]
 mod library {
     use crate::request::{Answer, Job, Memory, Side};
-
-    unsafe extern "C" {
-        fn tray_from_name(name: *const u8, length: usize, operator: *mut u64) -> u64;
-        fn tray_compose(
-            width: i64,
-            height: i64,
-            channels: i64,
-            dst: *const u32,
-            dst_length: usize,
-            table: *const i64,
-            table_length: usize,
-            args: *const u32,
-            args_length: usize,
-            samples: *const u32,
-            samples_length: usize,
-            out: *mut u32,
-            out_length: usize,
-        ) -> u64;
-        fn tray_narrow(wanted: i64, input: *const u32, input_length: usize, out: *mut u32, out_length: usize) -> u64;
-        fn tray_narrow_bytes(
-            wanted: i64,
-            input: *const u32,
-            input_length: usize,
-            out: *mut u8,
-            out_length: usize,
-        ) -> u64;
-        fn tray_job(
-            width: i64,
-            height: i64,
-            channels: i64,
-            dst: *const u32,
-            dst_length: usize,
-            layers: i64,
-            table: *const i64,
-            table_length: usize,
-            args: *const u32,
-            args_length: usize,
-            samples: *const u32,
-            samples_length: usize,
-            allowance: u64,
-            work0: *mut u32,
-            work0_length: usize,
-            work1: *mut u32,
-            work1_length: usize,
-            mark: *mut u64,
-            mark_length: usize,
-            layer: *mut u64,
-            stores: *mut u64,
-            finished: *mut u64,
-        ) -> u64;
-    }
+    use tray::raw;
 
     /// What the library says of a name: 0 and its operator; or 3, with the operator as it was.
     fn named(number: u64, operator: u64) -> Option<u64> {
@@ -101,16 +51,12 @@ mod library {
             Lent { all, length: list.len(), around }
         }
 
-        fn shared(&self) -> *const T {
-            self.all[MARGIN..].as_ptr()
-        }
-
-        fn unique(&mut self) -> *mut T {
-            self.all[MARGIN..].as_mut_ptr()
-        }
-
         fn list(&self) -> &[T] {
             &self.all[MARGIN..MARGIN + self.length]
+        }
+
+        fn list_mut(&mut self) -> &mut [T] {
+            &mut self.all[MARGIN..MARGIN + self.length]
         }
 
         /// The only element of the list.
@@ -154,6 +100,19 @@ mod library {
             }
         }
 
+        fn lent(&self, job: &Job) -> tray::Inputs<'_> {
+            tray::Inputs {
+                width: job.width,
+                height: job.height,
+                channels: job.channels,
+                dst: self.dst.list(),
+                layers: job.layers,
+                table: self.table.list(),
+                args: self.args.list(),
+                samples: self.samples.list(),
+            }
+        }
+
         fn kept(&self, job: &Job) {
             self.dst.kept(&job.dst);
             self.table.kept(&job.table);
@@ -168,7 +127,7 @@ mod library {
         fn from_name(&self, name: &[u8]) -> Option<u64> {
             let lent = Lent::new(name, 0x5a);
             let mut operator = Lent::new(&[LONG], LONG);
-            let number = unsafe { tray_from_name(lent.shared(), name.len(), operator.unique()) };
+            let number = raw::from_name(lent.list(), &mut operator.list_mut()[0]);
             lent.kept(name);
             named(number, operator.only())
         }
@@ -176,23 +135,7 @@ mod library {
         fn compose(&self, job: &Job, out: &mut [u32]) -> u64 {
             let inputs = Inputs::new(job);
             let mut written = Lent::new(out, WORD);
-            let number = unsafe {
-                tray_compose(
-                    job.width,
-                    job.height,
-                    job.channels,
-                    inputs.dst.shared(),
-                    job.dst.len(),
-                    inputs.table.shared(),
-                    job.table.len(),
-                    inputs.args.shared(),
-                    job.args.len(),
-                    inputs.samples.shared(),
-                    job.samples.len(),
-                    written.unique(),
-                    out.len(),
-                )
-            };
+            let number = raw::compose(&inputs.lent(job), written.list_mut());
             inputs.kept(job);
             out.copy_from_slice(written.around_kept().list());
             number
@@ -201,7 +144,7 @@ mod library {
         fn narrow(&self, wanted: i64, input: &[u32], out: &mut [u32]) -> u64 {
             let lent = Lent::new(input, WORD);
             let mut written = Lent::new(out, WORD);
-            let number = unsafe { tray_narrow(wanted, lent.shared(), input.len(), written.unique(), out.len()) };
+            let number = raw::narrow(wanted, lent.list(), written.list_mut());
             lent.kept(input);
             out.copy_from_slice(written.around_kept().list());
             number
@@ -210,7 +153,7 @@ mod library {
         fn narrow_bytes(&self, wanted: i64, input: &[u32], out: &mut [u8]) -> u64 {
             let lent = Lent::new(input, WORD);
             let mut written = Lent::new(out, 0x5a);
-            let number = unsafe { tray_narrow_bytes(wanted, lent.shared(), input.len(), written.unique(), out.len()) };
+            let number = raw::narrow_bytes(wanted, lent.list(), written.list_mut());
             lent.kept(input);
             out.copy_from_slice(written.around_kept().list());
             number
@@ -221,32 +164,10 @@ mod library {
             let [mut work0, mut work1] = [0, 1].map(|w| Lent::new(&memory.work[w], WORD));
             let mut mark = Lent::new(&memory.mark, LONG);
             let [mut layer, mut stores, mut finished] = [0; 3].map(|_| Lent::new(&[LONG], LONG));
-            let number = unsafe {
-                tray_job(
-                    job.width,
-                    job.height,
-                    job.channels,
-                    inputs.dst.shared(),
-                    job.dst.len(),
-                    job.layers,
-                    inputs.table.shared(),
-                    job.table.len(),
-                    inputs.args.shared(),
-                    job.args.len(),
-                    inputs.samples.shared(),
-                    job.samples.len(),
-                    allowance,
-                    work0.unique(),
-                    memory.work[0].len(),
-                    work1.unique(),
-                    memory.work[1].len(),
-                    mark.unique(),
-                    memory.mark.len(),
-                    layer.unique(),
-                    stores.unique(),
-                    finished.unique(),
-                )
-            };
+            let lent = tray::Memory { work0: work0.list_mut(), work1: work1.list_mut(), mark: mark.list_mut() };
+            let answers = [&mut layer, &mut stores, &mut finished].map(|answer| &mut answer.list_mut()[0]);
+            let [to_layer, to_stores, to_finished] = answers;
+            let number = raw::job(&inputs.lent(job), allowance, lent, to_layer, to_stores, to_finished);
             inputs.kept(job);
             memory.work = [&work0, &work1].map(|work| work.around_kept().list().to_vec());
             memory.mark = mark.around_kept().list().to_vec();

@@ -21,10 +21,10 @@ pub struct Progress {
 
 /// Goes on from the mark with up to `allowance` stores, five a pixel. `u64::MAX` runs to the end.
 pub fn job(inputs: &Inputs, allowance: u64, memory: Memory) -> Result<Progress, Refusal> {
-    let answer = raw::job(inputs, allowance, memory);
-    match Fault::check(answer.number) {
-        Ok(()) => Ok(Progress { stores: answer.stores, finished: answer.finished != 0 }),
-        Err(fault) => Err(Refusal { fault, layer: answer.layer }),
+    let (mut layer, mut stores, mut finished) = (0, 0, 0);
+    match Fault::check(raw::job(inputs, allowance, memory, &mut layer, &mut stores, &mut finished)) {
+        Ok(()) => Ok(Progress { stores, finished: finished != 0 }),
+        Err(fault) => Err(Refusal { fault, layer }),
     }
 }
 

@@ -10,7 +10,7 @@
 mod fault;
 mod job;
 mod layer;
-mod raw;
+pub mod raw;
 
 pub use fault::{Fault, Refusal};
 pub use job::{job, phase, total, Memory, Progress};

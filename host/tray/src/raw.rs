@@ -1,5 +1,6 @@
-//! The C interface (include/tray.h). All unsafe code of the crate is here: each function hands the pointers and lengths
-//! of borrowed lists to the library, which reads and writes only these, and keeps none of them.
+//! The C interface (include/tray.h), call for call, over borrowed lists and with the library's own numbers as answers. All
+//! unsafe code of the crate is here: each function hands the pointers and lengths of borrowed lists to the library, which
+//! reads and writes only these, and keeps none of them.
 
 use crate::{Inputs, Memory};
 
@@ -80,18 +81,16 @@ pub fn narrow_bytes(wanted: i64, input: &[u32], out: &mut [u8]) -> u64 {
     unsafe { tray_narrow_bytes(wanted, input.as_ptr(), input.len(), out.as_mut_ptr(), out.len()) }
 }
 
-/// What a job call answers.
-#[derive(Default)]
-pub struct Answer {
-    pub number: u64,
-    pub layer: u64,
-    pub stores: u64,
-    pub finished: u64,
-}
-
-pub fn job(inputs: &Inputs, allowance: u64, memory: Memory) -> Answer {
-    let mut answer = Answer::default();
-    answer.number = unsafe {
+/// The answer is the fault's number; the other three are written as include/tray.h says.
+pub fn job(
+    inputs: &Inputs,
+    allowance: u64,
+    memory: Memory,
+    layer: &mut u64,
+    stores: &mut u64,
+    finished: &mut u64,
+) -> u64 {
+    unsafe {
         tray_job(
             inputs.width,
             inputs.height,
@@ -112,10 +111,9 @@ pub fn job(inputs: &Inputs, allowance: u64, memory: Memory) -> Answer {
             memory.work1.len(),
             memory.mark.as_mut_ptr(),
             memory.mark.len(),
-            &mut answer.layer,
-            &mut answer.stores,
-            &mut answer.finished,
+            layer,
+            stores,
+            finished,
         )
-    };
-    answer
+    }
 }

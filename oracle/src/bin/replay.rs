@@ -1,5 +1,5 @@
 //! replay [FILE]: puts the cases of a file of vectors ('-': of standard input) to the static library that
-//! TRAY_LIB named at the build, or else to the restatement, and prints each line that is answered otherwise.
+//! the feature `tray` links, or else to the restatement, and prints each line that is answered otherwise.
 
 use oracle::compare::{agrees, answered};
 use oracle::lines::{Case, Reader, VECTORS, alone};

@@ -1,6 +1,6 @@
 //! stream COUNT SEED: COUNT random compositions, COUNT / 100 jobs of several layers and several calls each,
 //! COUNT / 10 narrowings and COUNT / 10 names, put to the compiled Rust with document 01's model around it and
-//! to the other side: the static library that TRAY_LIB named at the build, or else the restatement. Every
+//! to the other side: the static library that the feature `tray` links, or else the restatement. Every
 //! word, answer, count and untouched word is compared. The first mismatch is shrunk, and printed as a line
 //! that the vectors' program can replay.
 
@@ -83,7 +83,7 @@ fn main() {
     };
     let (side, name): (Box<dyn Side>, _) = match ours::linked() {
         Some(library) => (library, "the static library"),
-        None => (Box::new(Restated { reading: Reading::RIGHT }), "the restatement (TRAY_LIB was not set at the build)"),
+        None => (Box::new(Restated { reading: Reading::RIGHT }), "the restatement (without the feature `tray`)"),
     };
     let mut random = Random::new(seed);
     let mut stream = Stream { side, counts: Counts::default() };
