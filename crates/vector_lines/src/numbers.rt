@@ -1,6 +1,7 @@
 // Tokens and numbers. A token stands after one space; a number is one to sixteen small hexadecimal digits without leading zeros.
 ghost use mathlib.Core.Path.{_≡_};
 ghost use Prim.Native.Nat.{_≤_};
+ghost use Rattle.vector_lines.specs.Numbers.{largest, mostSigned, byteOf, afterOf, tokenAt, digitOf, none, upTo, goneOn, digitsAt, numberAt, expectedAt, integerOf, complementOf, signedAt, headAt};
 use crate::NOWHERE;
 
 // A number and the place after it; 0 and NOWHERE where there is none.
@@ -21,16 +22,23 @@ pub struct Head {
     pub next: usize,
 }
 
-fn byte(line: &[u8], at: usize) -> u8 {
+// The byte at a place; 0 past the line's end.
+fn byte(line: &[u8], at: usize) -> u8
+    ensures { λ r. ⌜ r ≡ byteOf (now (line .entry)) at ⌝ }
+{
     if at < line.len() { line[at] } else { 0 }
 }
 
-fn after(at: usize) -> usize {
+fn after(at: usize) -> usize
+    ensures { λ r. ⌜ r ≡ afterOf at ⌝ }
+{
     if at < NOWHERE { at + 1 } else { NOWHERE }
 }
 
 // Where the token after a space starts.
-fn token(line: &[u8], at: usize) -> usize {
+fn token(line: &[u8], at: usize) -> usize
+    ensures { λ r. ⌜ r ≡ tokenAt (now (line .entry)) at ⌝ }
+{
     if byte(line, at) == b' ' {
         after(at)
     } else {
@@ -38,43 +46,33 @@ fn token(line: &[u8], at: usize) -> usize {
     }
 }
 
-// The value of a hexadecimal digit; 16 of any other byte.
+// The value of a small hexadecimal digit; 16 of any other byte.
 fn digit(b: u8) -> u64
-    ensures { λ r. ⌜ r ≤ 16 ⌝ }
+    ensures { λ r. ⌜ r ≡ digitOf b ⌝ }
 {
-    match b {
-        b'0'..=b'9' => (b - b'0') as u64,
-        b'a'..=b'f' => (b - b'a' + 10) as u64,
-        _ => 16,
+    if b < b'0' {
+        return 16;
     }
+    if b < b':' {
+        return (b - b'0') as u64;
+    }
+    if b < b'a' {
+        return 16;
+    }
+    if b < b'g' {
+        return (b - 87) as u64;
+    }
+    16
 }
 
-// The number whose digits start at `start`; NOWHERE where there is no digit, or one too many, or a zero before others.
-fn digits(line: &[u8], start: usize) -> Unsigned {
-    let mut value: u64 = 0;
-    let mut at = start;
-    while at < line.len() {
-        let d = digit(line[at]);
-        if d > 15 {
-            break;
-        }
-        if value == 0 && at > start {
-            return nothing();
-        }
-        if value > 0xfff_ffff_ffff_ffff {
-            return nothing();
-        }
-        value = value * 16 + d;
-        at += 1;
-    }
-    if at == start {
-        return nothing();
-    }
-    Unsigned { value, next: at }
+fn digit_at(line: &[u8], at: usize) -> u64
+    ensures { λ r. ⌜ r ≡ digitOf (byteOf (now (line .entry)) at) ⌝ }
+{
+    digit(byte(line, at))
 }
 
 fn nothing() -> Unsigned
-    ensures { λ r. ⌜ r .value ≡ 0 ⌝ }
+    ensures { λ r. ⌜ r ≡ none ⌝ }
 {
     Unsigned {
         value: 0,
@@ -82,47 +80,110 @@ fn nothing() -> Unsigned
     }
 }
 
-pub fn number(line: &[u8], at: usize) -> Unsigned {
-    digits(line, token(line, at))
-}
-
-// The place after a number that must be `value`.
-pub fn expect(line: &[u8], at: usize, value: u64) -> usize {
-    let n = number(line, at);
-    if n.value == value { n.next } else { NOWHERE }
-}
-
-// A number that may be below zero: then its complement stands after `~`.
-pub fn signed(line: &[u8], at: usize) -> Integer {
-    let start = token(line, at);
-    if byte(line, start) == b'~' {
-        let n = short(digits(line, after(start)));
-        Integer {
-            value: !(n.value as i64),
-            next: n.next,
+// The number whose digits go on at `start` after those that spell `first`; NOWHERE where it has more than 64 bits.
+fn more_digits(line: &[u8], start: usize, first: u64) -> Unsigned
+    ensures { λ r. ⌜ r ≡ goneOn (now (line .entry)) start first ⌝ }
+{
+    let mut value = first;
+    let mut at = start;
+    let mut d = digit_at(line, at);
+    while d < 16 {
+        if value > 0xfff_ffff_ffff_ffff {
+            return nothing();
         }
-    } else {
-        let n = short(digits(line, start));
-        Integer {
-            value: n.value as i64,
-            next: n.next,
+        value = value * 16 + d;
+        at += 1;
+        d = digit_at(line, at);
+    }
+    Unsigned { value, next: at }
+}
+
+// The number whose digits start at `start`; NOWHERE where there is no digit, or a zero before others, or more than 64 bits.
+fn digits(line: &[u8], start: usize) -> Unsigned
+    ensures { λ r. ⌜ r ≡ digitsAt (now (line .entry)) start ⌝ }
+{
+    let first = digit_at(line, start);
+    if first > 15 {
+        return nothing();
+    }
+    let second = start + 1;
+    if first == 0 {
+        if digit_at(line, second) < 16 {
+            return nothing();
         }
     }
+    more_digits(line, second, first)
 }
 
-// A number of at most 63 bits.
-fn short(n: Unsigned) -> Unsigned
-    ensures { λ r. ⌜ r .value ≤ 9223372036854775807 ⌝ }
+// A number of at most `most`.
+fn limited(n: Unsigned, most: u64) -> Unsigned
+    ensures { λ r. ⌜ r ≡ upTo most (n .value) (n .next) ⌝ }
+    ensures { λ r. ⌜ r .value ≤ most ⌝ }
 {
-    let value = n.value;
-    if value > 0x7fff_ffff_ffff_ffff {
+    if n.value > most {
         return nothing();
     }
     n
 }
 
+// The number after a space.
+pub fn number_up_to(line: &[u8], at: usize, most: u64) -> Unsigned
+    ensures { λ r. ⌜ r ≡ numberAt most (now (line .entry)) at ⌝ }
+    ensures { λ r. ⌜ r .value ≤ most ⌝ }
+{
+    limited(digits(line, token(line, at)), most)
+}
+
+pub fn number(line: &[u8], at: usize) -> Unsigned
+    ensures { λ r. ⌜ r ≡ numberAt largest (now (line .entry)) at ⌝ }
+{
+    number_up_to(line, at, u64::MAX)
+}
+
+// The place after a number that must be `value`.
+pub fn expect(line: &[u8], at: usize, value: u64) -> usize
+    ensures { λ r. ⌜ r ≡ expectedAt (now (line .entry)) at value ⌝ }
+{
+    let n = number(line, at);
+    if n.value == value { n.next } else { NOWHERE }
+}
+
+const MOST_SIGNED: u64 = 0x7fff_ffff_ffff_ffff;
+
+// A number that may be below zero: then its complement stands after `~`.
+pub fn signed(line: &[u8], at: usize) -> Integer
+    ensures { λ r. ⌜ r ≡ signedAt (now (line .entry)) at ⌝ }
+{
+    let start = token(line, at);
+    if byte(line, start) == b'~' {
+        return complement(limited(digits(line, after(start)), MOST_SIGNED));
+    }
+    plain(limited(digits(line, start), MOST_SIGNED))
+}
+
+fn plain(n: Unsigned) -> Integer
+    requires { ⌜ n .value ≤ mostSigned ⌝ }
+    ensures { λ r. ⌜ r ≡ integerOf n ⌝ }
+{
+    Integer {
+        value: n.value as i64,
+        next: n.next,
+    }
+}
+
+fn complement(n: Unsigned) -> Integer
+    requires { ⌜ n .value ≤ mostSigned ⌝ }
+    ensures { λ r. ⌜ r ≡ complementOf n ⌝ }
+{
+    Integer {
+        value: !(n.value as i64),
+        next: n.next,
+    }
+}
+
 // What stands in the place of a list that has room for `room` numbers.
 pub fn head_of(line: &[u8], at: usize, room: usize) -> Head
+    ensures { λ r. ⌜ r ≡ headAt room (now (line .entry)) at ⌝ }
     ensures { λ r. ⌜ r .count ≤ room ⌝ }
 {
     let start = token(line, at);
@@ -133,14 +194,7 @@ pub fn head_of(line: &[u8], at: usize, room: usize) -> Head
             next: after(start),
         };
     }
-    let n = digits(line, start);
-    if n.value > room as u64 {
-        return Head {
-            kept: false,
-            count: 0,
-            next: NOWHERE,
-        };
-    }
+    let n = number_up_to(line, at, room as u64);
     Head {
         kept: false,
         count: n.value as usize,

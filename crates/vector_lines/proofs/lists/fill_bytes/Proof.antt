@@ -1,49 +1,71 @@
--- `fill_bytes` is safe and ends: the list keeps its length, so there is a place for each number. The measure is how many are left. Assumes nothing.
-use Prim.Native.Nat.{_≤_, _-_}
-use mathlib.Core.Path.{_≡_}
-use lib.ListN.{length}
+-- `fill_bytes` meets its contract. The invariant: i numbers are read and stand in the list, and `at` is the place after them. The measure is how
+-- many are left. Assumes nothing.
+use Prim.Native.Nat.{_≤_, _<_, _-_}
+use mathlib.Core.Path.{_≡_, sym, subst, ap, _∙_}
+use native.Mathlib.Omega.{arith}
 use borrow.Author.Needs.{needs}
+use lib.ListN.{length}
+use Rattle.vector_lines.specs.Numbers.{numberAt}
+use Rattle.vector_lines.specs.Lists.{endOf, numbersOf}
+use Rattle.vector_lines.proofs.Filling.{first-place, none-filled, next-place, one-filled, length-filled}
 use Rattle.vector_lines.proofs.lists.fill_bytes.Statement.{statement}
 use Rattle.vector_lines.proofs.lists.fill_bytes.Tie as tie
 
 abbrev Inv-loop : tie.InvT-loop
-Inv-loop line from list₀ count at₀ i₀ list at i = (i ≤ count) × (length list ≡ length list₀)
+Inv-loop line from list₀ count at₀ i₀ list at i = (i ≤ count) × (at ≡ endOf 255 line from i) × (list ≡ numbersOf 255 line from list₀ i)
 
 abbrev μ-loop : tie.MeasureT-loop
 μ-loop line from list₀ count at₀ i₀ list at i = count - i
 
 loop-holds : tie.Need-loop-holds Inv-loop μ-loop
-loop-holds c = search needs
+loop-holds c =
+    let s = c .before .before .args in (
+      omega arith,
+      first-place (λ at. numberAt 255 (s .line .now) at .value) (λ at. numberAt 255 (s .line .now) at .next) (s .from) (s .list .now),
+      none-filled (λ at. numberAt 255 (s .line .now) at .value) (λ at. numberAt 255 (s .line .now) at .next) (s .from) (s .list .now),
+    )
 
-number-requires : tie.Need-number-requires Inv-loop μ-loop
-number-requires c κs = search needs
-
-same-length : tie.Need-same-length Inv-loop μ-loop
-same-length c = search needs
-
-returns : tie.Need-returns Inv-loop μ-loop
-returns c = search needs
+number-up-to-requires : tie.Need-number-up-to-requires Inv-loop μ-loop
+number-up-to-requires c κs = search needs
 
 cast-list : tie.Need-cast-list Inv-loop μ-loop
-cast-list c = search needs
+cast-list c = let h = c .before .number-up-to .ensures .1 in search needs
 
 slice-write-list : tie.Need-slice-write-list Inv-loop μ-loop
-slice-write-list c = search needs
+slice-write-list c =
+    let l = c .before .before .before in
+    let s = l .before .before .before .args in
+    let long = ap length (l .loop .inv .2) ∙ length-filled (λ at. numberAt 255 (s .line .now) at .value) (λ at. numberAt 255 (s .line .now) at .next) (s .from) (s .list .now) (l .loop .i) in
+    omega (arith, long)
 
 add-i : tie.Need-add-i Inv-loop μ-loop
 add-i c = search needs
 
 loop-less : tie.Need-loop-less Inv-loop μ-loop
-loop-less c = search needs
+loop-less c = omega arith
 
 loop-again : tie.Need-loop-again Inv-loop μ-loop
-loop-again c = search needs
+loop-again c =
+    let n = c .before .number-up-to in
+    let l = c .before .before .before in
+    let s = l .before .before .before .args in (
+      omega arith,
+      rw (n .ensures .0) (next-place (λ at. numberAt 255 (s .line .now) at .value) (λ at. numberAt 255 (s .line .now) at .next) (s .from) (s .list .now) (l .loop .i) (l .loop .at) (l .loop .inv .1)),
+      rw (n .ensures .0) (one-filled (λ at. numberAt 255 (s .line .now) at .value) (λ at. numberAt 255 (s .line .now) at .next) (s .from) (s .list .now) (l .loop .i) (l .loop .at) (l .loop .inv .1) (l .loop .list) (l .loop .inv .2)),
+    )
 
-same-length-2 : tie.Need-same-length-2 Inv-loop μ-loop
-same-length-2 c = search needs
+same-length : tie.Need-same-length Inv-loop μ-loop
+same-length c =
+    let l = c .before in
+    let s = l .before .before .before .args in
+    ap length (l .loop .inv .2) ∙ length-filled (λ at. numberAt 255 (s .line .now) at .value) (λ at. numberAt 255 (s .line .now) at .next) (s .from) (s .list .now) (l .loop .i)
 
-returns-2 : tie.Need-returns-2 Inv-loop μ-loop
-returns-2 c = search needs
+returns : tie.Need-returns Inv-loop μ-loop
+returns c =
+    let l = c .before in
+    let s = l .before .before .before .args in
+    let all : l .loop .i ≡ s .count = omega arith in
+    (rw (← all) (l .loop .inv .1), rw (← all) (l .loop .inv .2))
 
 pub fill-bytes-spec : {M : Type 1} → statement M
 fill-bytes-spec =
@@ -52,13 +74,11 @@ fill-bytes-spec =
     Inv-loop
     μ-loop
     loop-holds
-    number-requires
-    same-length
-    returns
+    number-up-to-requires
     cast-list
     slice-write-list
     add-i
     loop-less
     loop-again
-    same-length-2
-    returns-2)
+    same-length
+    returns)

@@ -1,43 +1,73 @@
--- `fill_integers` is safe and ends: the list keeps its length, so there is a place for each number. The measure is how many are left. Assumes nothing.
-use Prim.Native.Nat.{_≤_, _-_}
-use mathlib.Core.Path.{_≡_}
-use lib.ListN.{length}
+-- `fill_integers` meets its contract. The invariant: i numbers are read and stand in the list, and `at` is the place after them. The measure is how
+-- many are left. Assumes nothing.
+use Prim.Native.Nat.{_≤_, _<_, _-_}
+use mathlib.Core.Path.{_≡_, sym, subst, ap, _∙_}
+use native.Mathlib.Omega.{arith}
 use borrow.Author.Needs.{needs}
+use lib.ListN.{length}
+use mir.Facts.{toZ-ofZ}
+use Rattle.vector_lines.specs.Numbers.{signedAt}
+use Rattle.vector_lines.specs.Lists.{signedEnd, integersOf}
+use Rattle.vector_lines.proofs.Digits.{signed-fits}
+use Rattle.vector_lines.proofs.Filling.{first-place, none-filled, next-place, one-filled, length-filled}
 use Rattle.vector_lines.proofs.lists.fill_integers.Statement.{statement}
 use Rattle.vector_lines.proofs.lists.fill_integers.Tie as tie
 
 abbrev Inv-loop : tie.InvT-loop
-Inv-loop line from list₀ count at₀ i₀ list at i = (i ≤ count) × (length list ≡ length list₀)
+Inv-loop line from list₀ count at₀ i₀ list at i = (i ≤ count) × (at ≡ signedEnd line from i) × (list ≡ integersOf line from list₀ i)
 
 abbrev μ-loop : tie.MeasureT-loop
 μ-loop line from list₀ count at₀ i₀ list at i = count - i
 
 loop-holds : tie.Need-loop-holds Inv-loop μ-loop
-loop-holds c = search needs
+loop-holds c =
+    let s = c .before .args in (
+      omega arith,
+      first-place (λ at. signedAt (s .line .now) at .value) (λ at. signedAt (s .line .now) at .next) (s .from) (s .list .now),
+      none-filled (λ at. signedAt (s .line .now) at .value) (λ at. signedAt (s .line .now) at .next) (s .from) (s .list .now),
+    )
 
 signed-requires : tie.Need-signed-requires Inv-loop μ-loop
 signed-requires c κs = search needs
 
 mul-z : tie.Need-mul-z Inv-loop μ-loop
-mul-z c = search needs
+mul-z c = let l = c .before .before .before in search needs
 
 slice-set-from-z : tie.Need-slice-set-from-z Inv-loop μ-loop
-slice-set-from-z c = search needs
+slice-set-from-z c =
+    let l = c .before .before .before in
+    let s = l .before .before .args in
+    let long = ap length (l .loop .inv .2) ∙ length-filled (λ at. signedAt (s .line .now) at .value) (λ at. signedAt (s .line .now) at .next) (s .from) (s .list .now) (l .loop .i) in
+    omega (arith, long)
 
 add-i : tie.Need-add-i Inv-loop μ-loop
 add-i c = search needs
 
 loop-less : tie.Need-loop-less Inv-loop μ-loop
-loop-less c = search needs
+loop-less c = omega arith
 
 loop-again : tie.Need-loop-again Inv-loop μ-loop
-loop-again c = search needs
+loop-again c =
+    let n = c .before .signed in
+    let l = c .before .before .before in
+    let s = l .before .before .args in (
+      omega arith,
+      rw (n .ensures) (next-place (λ at. signedAt (s .line .now) at .value) (λ at. signedAt (s .line .now) at .next) (s .from) (s .list .now) (l .loop .i) (l .loop .at) (l .loop .inv .1)),
+      rw (n .ensures, toZ-ofZ (signed-fits (s .line .now) (l .loop .at))) (one-filled (λ at. signedAt (s .line .now) at .value) (λ at. signedAt (s .line .now) at .next) (s .from) (s .list .now) (l .loop .i) (l .loop .at) (l .loop .inv .1) (l .loop .list) (l .loop .inv .2)),
+    )
 
 same-length : tie.Need-same-length Inv-loop μ-loop
-same-length c = search needs
+same-length c =
+    let l = c .before in
+    let s = l .before .before .args in
+    ap length (l .loop .inv .2) ∙ length-filled (λ at. signedAt (s .line .now) at .value) (λ at. signedAt (s .line .now) at .next) (s .from) (s .list .now) (l .loop .i)
 
 returns : tie.Need-returns Inv-loop μ-loop
-returns c = search needs
+returns c =
+    let l = c .before in
+    let s = l .before .before .args in
+    let all : l .loop .i ≡ s .count = omega arith in
+    (rw (← all) (l .loop .inv .1), rw (← all) (l .loop .inv .2))
 
 pub fill-integers-spec : {M : Type 1} → statement M
 fill-integers-spec =

@@ -1,21 +1,25 @@
--- `same_words` is safe and ends: the lists are equally long, and the measure is what is left of them. Assumes nothing.
+-- `same_words` meets its contract. The invariant: the lists compare as what is left of them from i on. The measure is what is left. Assumes nothing.
 use Prim.Native.Nat.{_≤_, _-_}
-use lib.ListN.{length}
+use mathlib.Core.Path.{_≡_, refl, sym, _∙_}
+use native.Mathlib.Omega.{arith}
 use borrow.Author.Needs.{needs}
+use lib.ListN.{length, drop}
+use Rattle.vector_lines.specs.Lists.{same}
+use Rattle.vector_lines.proofs.Same.{other-length, agree, differ, both-ended}
 use Rattle.vector_lines.proofs.lists.same_words.Statement.{statement}
 use Rattle.vector_lines.proofs.lists.same_words.Tie as tie
 
 abbrev Inv-loop : tie.InvT-loop
-Inv-loop a b i₀ i = i ≤ length a
+Inv-loop a b i₀ i = (i ≤ length a) × (same a b ≡ same (drop i a) (drop i b))
 
 abbrev μ-loop : tie.MeasureT-loop
 μ-loop a b i₀ i = length a - i
 
 returns : tie.Need-returns Inv-loop μ-loop
-returns c = search needs
+returns c = other-length _ _ (c .if1 .taken)
 
 loop-holds : tie.Need-loop-holds Inv-loop μ-loop
-loop-holds c = search needs
+loop-holds c = (omega arith, refl)
 
 mul-if2 : tie.Need-mul-if2 Inv-loop μ-loop
 mul-if2 c = search needs
@@ -30,19 +34,25 @@ shared-slice-read-if2-2 : tie.Need-shared-slice-read-if2-2 Inv-loop μ-loop
 shared-slice-read-if2-2 c = search needs
 
 returns-2 : tie.Need-returns-2 Inv-loop μ-loop
-returns-2 c = search needs
+returns-2 c =
+    let l = c .before .before .before .before in
+    sym (l .loop .inv .1 ∙ differ _ _ (l .loop .i) (omega arith) (omega arith) (c .if2 .taken))
 
 add-i : tie.Need-add-i Inv-loop μ-loop
 add-i c = search needs
 
 loop-less : tie.Need-loop-less Inv-loop μ-loop
-loop-less c = search needs
+loop-less c = omega arith
 
 loop-again : tie.Need-loop-again Inv-loop μ-loop
-loop-again c = search needs
+loop-again c =
+    let l = c .before .before .before .before in
+    (omega arith, l .loop .inv .1 ∙ agree _ _ (l .loop .i) (omega arith) (omega arith) (c .if2 .left))
 
 returns-3 : tie.Need-returns-3 Inv-loop μ-loop
-returns-3 c = search needs
+returns-3 c =
+    let l = c .before in
+    sym (l .loop .inv .1 ∙ both-ended _ _ (l .loop .i) (c .loop-test .left) (omega arith))
 
 pub same-words-spec : {M : Type 1} → statement M
 same-words-spec =

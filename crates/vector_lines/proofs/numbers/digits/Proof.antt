@@ -1,79 +1,69 @@
--- `digits` is safe and ends: a number that a digit is added to has 60 binary digits. The measure is what is left of the line. Assumes nothing.
-use Prim.Native.Nat.{_≤_, _-_}
-use lib.ListN.{length}
+-- `digits` meets its contract: a first digit, which is no zero before others, and those after it. Assumes nothing.
+use mathlib.Core.Path.{sym, _∙_}
+use mathlib.Core.Logic.{⊎-elim}
+use native.Mathlib.Omega.{arith}
 use borrow.Author.Needs.{needs}
+use borrow.Author.Tests.{eq-eqb, ne-eqb}
+use Rattle.vector_lines.proofs.Digits.{in-line, no-digits, zero-first, zero-alone, other-first}
 use Rattle.vector_lines.proofs.numbers.digits.Statement.{statement}
 use Rattle.vector_lines.proofs.numbers.digits.Tie as tie
 
-abbrev Inv-loop : tie.InvT-loop
-Inv-loop line start value₀ at₀ value at = start ≤ at
+digit-at-requires : tie.Need-digit-at-requires
+digit-at-requires c κs = search needs
 
-abbrev μ-loop : tie.MeasureT-loop
-μ-loop line start value₀ at₀ value at = length line - at
-
-loop-holds : tie.Need-loop-holds Inv-loop μ-loop
-loop-holds c = search needs
-
-shared-slice-read-digit : tie.Need-shared-slice-read-digit Inv-loop μ-loop
-shared-slice-read-digit c = search needs
-
-digit-requires : tie.Need-digit-requires Inv-loop μ-loop
-digit-requires c κs = search needs
-
-nothing-requires : tie.Need-nothing-requires Inv-loop μ-loop
+nothing-requires : tie.Need-nothing-requires
 nothing-requires c κs = search needs
 
-returns : tie.Need-returns Inv-loop μ-loop
-returns c = search needs
+returns : tie.Need-returns
+returns c =
+    let d = c .before .before in
+    let s = d .before .before .args in
+    c .nothing .ensures ∙ no-digits (s .line .now) (s .start) _ (d .digit-at .ensures) (c .before .if1 .taken)
 
-nothing-requires-2 : tie.Need-nothing-requires-2 Inv-loop μ-loop
+add-second : tie.Need-add-second
+add-second c =
+    let d = c .before in
+    let s = d .before .before .args in
+    let inside = in-line (s .line .now) (s .start) _ (d .digit-at .ensures) (omega arith) in
+    search needs
+
+digit-at-requires-2 : tie.Need-digit-at-requires-2
+digit-at-requires-2 c κs = search needs
+
+nothing-requires-2 : tie.Need-nothing-requires-2
 nothing-requires-2 c κs = search needs
 
-returns-2 : tie.Need-returns-2 Inv-loop μ-loop
-returns-2 c = search needs
+returns-2 : tie.Need-returns-2
+returns-2 c =
+    let t = c .before in
+    let z = t .before .before in
+    let d = z .before .before in
+    let s = d .before .before .args in
+    c .nothing2 .ensures
+    ∙ zero-first (s .line .now) (s .start) _ _ (d .digit-at .ensures) (t .before .digit-at2 .ensures) (omega arith) (z .if2 .taken) (t .if3 .taken)
 
-mul-value : tie.Need-mul-value Inv-loop μ-loop
-mul-value c = search needs
+more-digits-requires : tie.Need-more-digits-requires
+more-digits-requires c κs = search needs
 
-add-value : tie.Need-add-value Inv-loop μ-loop
-add-value c = search needs
-
-add-at : tie.Need-add-at Inv-loop μ-loop
-add-at c = search needs
-
-loop-less : tie.Need-loop-less Inv-loop μ-loop
-loop-less c = search needs
-
-loop-again : tie.Need-loop-again Inv-loop μ-loop
-loop-again c = search needs
-
-nothing-requires-3 : tie.Need-nothing-requires-3 Inv-loop μ-loop
-nothing-requires-3 c κs = search needs
-
-returns-3 : tie.Need-returns-3 Inv-loop μ-loop
-returns-3 c = search needs
-
-returns-4 : tie.Need-returns-4 Inv-loop μ-loop
-returns-4 c = search needs
+returns-3 : tie.Need-returns-3
+returns-3 c =
+    let d = c .before .before .before in
+    let s = d .before .before .args in
+    ⊎-elim
+    (λ w. c .more-digits .ensures ∙ zero-alone (s .line .now) (s .start) _ _ (d .digit-at .ensures) (w .1 .ensures) (omega arith) (w .2 .left))
+    (λ w. c .more-digits .ensures ∙ other-first (s .line .now) (s .start) _ (d .digit-at .ensures) (omega arith) (w .left))
+    (c .before .if2 .came)
 
 pub digits-spec : {M : Type 1} → statement M
 digits-spec =
     tie.close
     (tie.spec
-    Inv-loop
-    μ-loop
-    loop-holds
-    shared-slice-read-digit
-    digit-requires
+    digit-at-requires
     nothing-requires
     returns
+    add-second
+    digit-at-requires-2
     nothing-requires-2
     returns-2
-    mul-value
-    add-value
-    add-at
-    loop-less
-    loop-again
-    nothing-requires-3
-    returns-3
-    returns-4)
+    more-digits-requires
+    returns-3)

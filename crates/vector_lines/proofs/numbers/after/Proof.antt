@@ -1,0 +1,17 @@
+-- `after` meets its contract: the test is the definition's. Assumes nothing.
+use borrow.Author.Needs.{needs}
+use borrow.Author.Tests.{lt-ltb, le-ltb}
+use Rattle.vector_lines.proofs.numbers.after.Statement.{statement}
+use Rattle.vector_lines.proofs.numbers.after.Tie as tie
+
+add-result : tie.Need-add-result
+add-result c = search needs
+
+returns : tie.Need-returns
+returns c = simp (lt-ltb _ _ (c .if1 .taken))
+
+returns-2 : tie.Need-returns-2
+returns-2 c = simp (le-ltb _ _ (c .if1 .left))
+
+pub after-spec : {M : Type 1} → statement M
+after-spec = tie.close (tie.spec add-result returns returns-2)
