@@ -1,33 +1,45 @@
-//! Compiles pixman.c where Debian's libpixman-1-dev is installed; otherwise the benchmark goes without pixman.
+//! Compiles pixman.c and magick.c where Debian's libpixman-1-dev and libmagickcore-6.q16hdri-dev are installed; the
+//! benchmark goes without what is not there, and says so.
 
 use std::env;
 use std::path::PathBuf;
 use std::process::Command;
 
-/// A program's first line; none where it fails or is not there.
+/// What a program writes; none where it fails or is not there.
 fn says(program: &str, words: &[&str]) -> Option<String> {
     let output = Command::new(program).args(words).output().ok()?;
     output.status.success().then(|| String::from_utf8_lossy(&output.stdout).trim().to_string())
 }
 
-fn main() {
-    println!("cargo::rustc-check-cfg=cfg(pixman)");
-    println!("cargo::rerun-if-changed=src/pixman.c");
-    let header = "/usr/include/pixman-1";
-    let Some(version) =
-        says("sed", &["-n", "s/.*PIXMAN_VERSION_STRING \"\\(.*\\)\"/\\1/p", &format!("{header}/pixman-version.h")])
-    else {
-        return;
-    };
+/// Compiles src/NAME.c against a package and links both. Answers the package's version, if it is there.
+fn linked(name: &str, package: &str) -> Option<String> {
+    println!("cargo::rustc-check-cfg=cfg({name})");
+    println!("cargo::rerun-if-changed=src/{name}.c");
+    let asked = |what: &str| says("pkg-config", &[what, package]);
+    let (version, flags, libraries) = (asked("--modversion")?, asked("--cflags")?, asked("--libs-only-l")?);
     let out = PathBuf::from(env::var("OUT_DIR").unwrap());
-    let object = out.join("pixman.o").display().to_string();
-    let archive = out.join("libbench_pixman.a").display().to_string();
-    let compiled = says("cc", &["-O2", "-I", header, "-c", "src/pixman.c", "-o", &object]).is_some();
-    if compiled && says("ar", &["rcs", &archive, &object]).is_some() {
-        println!("cargo::rustc-cfg=pixman");
-        println!("cargo::rustc-env=PIXMAN_VERSION={version}");
-        println!("cargo::rustc-link-search=native={}", out.display());
-        println!("cargo::rustc-link-lib=static=bench_pixman");
-        println!("cargo::rustc-link-lib=pixman-1");
+    let object = out.join(format!("{name}.o")).display().to_string();
+    let archive = out.join(format!("libbench_{name}.a")).display().to_string();
+    let source = format!("src/{name}.c");
+    let mut words: Vec<&str> = flags.split_ascii_whitespace().collect();
+    words.extend(["-O2", "-c", &source, "-o", &object]);
+    says("cc", &words)?;
+    says("ar", &["rcs", &archive, &object])?;
+    println!("cargo::rustc-cfg={name}");
+    println!("cargo::rustc-link-search=native={}", out.display());
+    println!("cargo::rustc-link-lib=static=bench_{name}");
+    for library in libraries.split_ascii_whitespace() {
+        println!("cargo::rustc-link-lib={}", library.trim_start_matches("-l"));
     }
+    Some(version)
+}
+
+fn main() {
+    let missing = |package: &str| format!("not installed (Debian's {package})");
+    let pixman = linked("pixman", "pixman-1").map(|version| format!("{version}, PIXMAN_rgba_float"));
+    let magick = linked("magick", "MagickCore-6.Q16HDRI").map(|version| format!("{version}, Q16 HDRI (floats)"));
+    let pixman = pixman.unwrap_or_else(|| missing("libpixman-1-dev"));
+    let magick = magick.unwrap_or_else(|| missing("libmagickcore-6.q16hdri-dev"));
+    println!("cargo::rustc-env=PIXMAN_VERSION={pixman}");
+    println!("cargo::rustc-env=MAGICK_VERSION={magick}");
 }

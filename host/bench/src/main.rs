@@ -2,14 +2,15 @@
 //! Markdown. Both compose the same layer on the same destination, four channels each, in the same run, taking turns; the
 //! results are compared word by word. Ours is a job of one layer from mark 0: two phases, all its stores and marks. The
 //! Rust's buffers are made anew in each call; it is timed with the allocator as a process starts, and once more with one
-//! that gives no memory back.
+//! that gives no memory back. pixman and ImageMagick are timed beside them where they are installed, in the same run, for
+//! the operators that they have.
 //!
 //!     bench [SIDE..]        sides of the square pictures: 64 1024 2048 without any
 
 mod allocator;
 mod clock;
 mod inputs;
-mod pixman;
+mod others;
 
 use inputs::{Pair, composite};
 use oracle::deep::FloatImage;
@@ -47,13 +48,13 @@ fn effort(pixels: usize) -> (usize, usize) {
     }
 }
 
-/// Nanoseconds a pixel of one operator: ours, the Rust's, the Rust's with its memory kept, pixman's where it has the
-/// operator.
+/// Nanoseconds a pixel of one operator: ours, the Rust's, the Rust's with its memory kept, and those of the other
+/// libraries, NaN where one has not the operator.
 struct Row {
     ours: f64,
     rust: f64,
     kept: f64,
-    pixman: Option<f64>,
+    others: [f64; others::COUNT],
 }
 
 impl Row {
@@ -81,8 +82,11 @@ impl Work {
     }
 }
 
-/// Nanoseconds a pixel of one operator in this process: ours, the Rust's, pixman's if it has the operator and is wanted.
-fn measure(pair: &Pair, [dst, src]: &[FloatImage; 2], work: &mut Work, operator: usize, with_pixman: bool) -> [f64; 3] {
+/// What one operator takes in this process: ours, the Rust's, and the others' if they are wanted.
+type Times = [f64; 2 + others::COUNT];
+
+/// Nanoseconds a pixel.
+fn measure(pair: &Pair, [dst, src]: &[FloatImage; 2], work: &mut Work, operator: usize, with_others: bool) -> Times {
     let (stack, rust) = (pair.stack(operator), composite(operator));
     let (rounds, batch) = effort(pair.pixels());
     let mut theirs = || drop(black_box(rust.compose_float(black_box(dst), black_box(src))));
@@ -90,9 +94,11 @@ fn measure(pair: &Pair, [dst, src]: &[FloatImage; 2], work: &mut Work, operator:
     let expected = rust.compose_float(dst, src);
     let same = |(word, value): (&u32, &f32)| *word == value.to_bits() || *word == NAN && value.is_nan();
     assert!(work.0[1].iter().zip(expected.samples()).all(same), "{}: another result", rust.op.name());
-    let composition = if with_pixman { pixman::Composition::new(pair, operator) } else { None };
-    let pixman = composition.map_or(f64::NAN, |mut c| shortest(rounds, batch, [&mut || c.run()])[0]);
-    [ours, rust_time, pixman].map(|time| time * 1e9 / pair.pixels() as f64)
+    let [pixman, magick] = others::LIBRARIES.map(|library| {
+        let composition = if with_others { others::Composition::new(library, pair, operator) } else { None };
+        composition.map_or(f64::NAN, |mut c| shortest(rounds, batch, [&mut || c.run()])[0])
+    });
+    [ours, rust_time, pixman, magick].map(|time| time * 1e9 / pair.pixels() as f64)
 }
 
 /// One side under one setting of the allocator, in a process of its own: what came before would change its state.
@@ -109,12 +115,12 @@ fn part(side: usize, keep: bool) {
 }
 
 /// The lines of such a process.
-fn ask(side: usize, keep: bool) -> Vec<[f64; 3]> {
+fn ask(side: usize, keep: bool) -> Vec<Times> {
     let this = std::env::current_exe().expect("this program");
     let asked = Command::new(this).args(["part", &side.to_string(), &keep.to_string()]).output().expect("a process");
     assert!(asked.status.success(), "{}", String::from_utf8_lossy(&asked.stderr));
     let number = |text: &str| text.parse().expect("a number");
-    let line = |line: &str| line.split(' ').map(number).collect::<Vec<f64>>().try_into().expect("three numbers");
+    let line = |line: &str| line.split(' ').map(number).collect::<Vec<f64>>().try_into().expect("a number for each");
     String::from_utf8_lossy(&asked.stdout).lines().map(line).collect()
 }
 
@@ -122,9 +128,11 @@ fn ask(side: usize, keep: bool) -> Vec<[f64; 3]> {
 fn column(side: usize) -> Vec<Row> {
     let (first, second) = (ask(side, false), ask(side, true));
     eprintln!("{side} x {side} measured");
-    let row = |(&[ours, rust, _], &[again, kept, pixman]): (&[f64; 3], &[f64; 3])| {
-        let pixman = Some(pixman).filter(|time| !time.is_nan());
-        Row { ours: ours.min(again), rust, kept, pixman }
+    let row = |(&[ours, rust, ..], &[again, kept, ref others @ ..]): (&Times, &Times)| Row {
+        ours: ours.min(again),
+        rust,
+        kept,
+        others: *others,
     };
     first.iter().zip(&second).map(row).collect()
 }
@@ -154,18 +162,28 @@ fn operators(sides: &[usize]) {
         println!("| largest{kept} |{}", line(&largest));
         println!("| slower operators{kept} |{}", line(&|c| ratios(c).iter().filter(|r| **r > 1.0).count().to_string()));
     }
+    for (k, library) in others::LIBRARIES.iter().enumerate() {
+        let ratios = |column: &[Row]| -> Vec<f64> {
+            column.iter().map(|row| row.ours / row.others[k]).filter(|ratio| !ratio.is_nan()).collect()
+        };
+        let middle = |column: &[Row]| match ratios(column) {
+            none if none.is_empty() => "–".to_string(),
+            shared => format!("{:.2} ({} operators)", median(shared.clone()), shared.len()),
+        };
+        println!("| ours / {}, median |{}", library.name, line(&middle));
+    }
     println!(
         "\n| operator: ours / Rust, and its memory kept |{}{}",
         head(""),
-        head("ns a pixel: ours, Rust, kept, pixman, ")
+        head("ns a pixel: ours, Rust, kept, pixman, ImageMagick, ")
     );
     rule(2 * sides.len());
     for (i, n) in numbers.iter().enumerate() {
         let ratios = |c: &[Row]| format!("{:.2}, {:.2}", c[i].ratio(), c[i].kept_ratio());
         let times = |column: &[Row]| {
-            let Row { ours, rust, kept, pixman } = &column[i];
-            let pixman = pixman.map_or("–".to_string(), |time| format!("{time:.1}"));
-            format!("{ours:.1}, {rust:.1}, {kept:.1}, {pixman}")
+            let Row { ours, rust, kept, others } = &column[i];
+            let others = others.map(|time| if time.is_nan() { "–".to_string() } else { format!("{time:.1}") });
+            format!("{ours:.1}, {rust:.1}, {kept:.1}, {}", others.join(", "))
         };
         println!("| {} |{}{}", composite(*n).op.name(), line(&ratios), line(&times));
     }
@@ -196,7 +214,12 @@ fn processor() -> String {
 
 fn main() {
     let words: Vec<String> = std::env::args().skip(1).collect();
-    let number = |text: &String| text.parse().expect("sides are numbers");
+    let number = |text: &String| {
+        text.parse().ok().filter(|side| (1..=tray::SIDE as usize).contains(side)).unwrap_or_else(|| {
+            eprintln!("bench [SIDE..]: a side is a number from 1 to {}, not {text}", tray::SIDE);
+            std::process::exit(2)
+        })
+    };
     if let [kind, side, keep] = &words[..]
         && kind == "part"
     {
@@ -205,7 +228,9 @@ fn main() {
     let given: Vec<usize> = words.iter().map(number).collect();
     let sides = if given.is_empty() { vec![64, 1024, 2048] } else { given };
     println!("Processor: {}; one thread each; processor time, the shortest of several turns.", processor());
-    println!("pixman: {}.", pixman::VERSION);
+    for library in others::LIBRARIES {
+        println!("{}: {}.", library.name, library.version);
+    }
     operators(&sides);
     stacks(&[64, 128, 256, 512, 1024, 2048]);
 }

@@ -2,7 +2,7 @@
 #include <pixman.h>
 
 // pixman's operator for ours, or -1: Porter and Duff's and the blend modes that both have.
-int bench_operator(int number) {
+int pixman_operator(int number) {
     switch (number) {
     case 0: return PIXMAN_OP_OVER;
     case 1: return PIXMAN_OP_IN;
@@ -31,12 +31,14 @@ int bench_operator(int number) {
     }
 }
 
-pixman_image_t *bench_image(int side, float *samples) {
+// The image is the samples themselves.
+void *pixman_image(int side, float *samples) {
     return pixman_image_create_bits(PIXMAN_rgba_float, side, side, (uint32_t *)samples, 16 * side);
 }
 
-void bench_free(pixman_image_t *image) { pixman_image_unref(image); }
+void pixman_free(void *image) { pixman_image_unref(image); }
 
-void bench_compose(int operator, pixman_image_t *src, pixman_image_t *dst, int side) {
+int pixman_compose(int operator, void *src, void *dst, int side) {
     pixman_image_composite32(operator, src, 0, dst, 0, 0, 0, 0, 0, 0, side, side);
+    return 1;
 }
