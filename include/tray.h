@@ -10,8 +10,8 @@
  * What is lent. A list is lent as a pointer and its count of elements, for the time of the call; no pointer is kept.
  * Pointers to const are only read. The others are written only as each function says, and not at all by a call that is
  * refused (its answer is not 0), but for a job call's three answers. The pointer of an empty list is not read, but must
- * not be null and must be aligned for its type, as all pointers must. Lists that a call writes must overlap neither each
- * other nor any list that it reads.
+ * not be null and must be aligned for its type, as all pointers must. Whatever a call writes, a list or a single answer,
+ * must overlap neither anything else that it writes nor any list that it reads.
  *
  * Calls have no state of their own and take no lock, allocate nothing and always return. Calls on different lists may
  * run at the same time.
@@ -58,7 +58,7 @@ enum tray_fault {
 /* The layer table: ten numbers a layer, the lowest layer first. */
 enum tray_column {
     TRAY_COLUMN_OPERATOR = 0,   /* from tray_from_name */
-    TRAY_COLUMN_GRAVITY = 1,    /* 0 none; 1 to 9 north west, north, north east, west, centre, east, south west, .. */
+    TRAY_COLUMN_GRAVITY = 1,    /* enum tray_gravity */
     TRAY_COLUMN_RIGHT = 2,      /* the offset from there, in pixels */
     TRAY_COLUMN_DOWN = 3,
     TRAY_COLUMN_FLAGS = 4,      /* a sum of enum tray_flag */
@@ -70,8 +70,23 @@ enum tray_column {
     TRAY_COLUMNS = 10
 };
 
+/* Where the source lies before the offset: its own corner, side or middle on the destination's. A middle that falls
+ * between two pixels is taken towards zero: (destination - source) / 2 as C divides. 0 is the upper left corner too. */
+enum tray_gravity {
+    TRAY_NO_GRAVITY = 0,
+    TRAY_NORTH_WEST = 1,
+    TRAY_NORTH = 2,
+    TRAY_NORTH_EAST = 3,
+    TRAY_WEST = 4,
+    TRAY_CENTRE = 5,
+    TRAY_EAST = 6,
+    TRAY_SOUTH_WEST = 7,
+    TRAY_SOUTH = 8,
+    TRAY_SOUTH_EAST = 9
+};
+
 enum tray_flag {
-    TRAY_TILE = 1,              /* the source repeats in all directions */
+    TRAY_TILE = 1,              /* the source repeats in all directions; one without pixels does not */
     TRAY_OVERLAY = 2,           /* off the source the operator runs on (0, 0, 0, 0); without it the pixel is kept */
     TRAY_RED = 4,               /* a channel whose flag is off keeps the destination's bits */
     TRAY_GREEN = 8,
@@ -80,11 +95,13 @@ enum tray_flag {
 };
 
 /* The operator that a name spells: 0 and its number, 0 to 69, in *operator; or 3, and *operator as it was. '-', '_' and
- * space are dropped, A to Z lowered; the rest must be one of the 70 names or 13 aliases. `name` has no ending 0. */
+ * space are dropped, A to Z lowered; the rest must be one of the 70 names or 13 aliases. `name` has no ending 0.
+ * Interpolate (43) and Blur (67) are known names, of operators that a composition refuses as 4. */
 uint64_t tray_from_name(const uint8_t *name, size_t name_length, uint64_t *operator_number);
 
 /* One layer on one destination: 0 and the whole picture, four channels, in `out`; or a number from 1 to 9, and `out` as
- * it was. The table has 10 numbers, args 4 words, out 4 x width x height. */
+ * it was. The table has 10 numbers, args 4 words, out 4 x width x height. A destination or source of one channel counts
+ * as that gray thrice, of one or three channels as opaque. Every sample is that of the Rust's compose_float. */
 uint64_t tray_compose(
     int64_t width, int64_t height, int64_t channels, const uint32_t *dst, size_t dst_length,
     const int64_t *table, size_t table_length, const uint32_t *args, size_t args_length,
@@ -92,7 +109,8 @@ uint64_t tray_compose(
     uint32_t *out, size_t out_length);
 
 /* A picture of four channels narrowed to `wanted` of them, as words or as bytes 0 to 255: 0 and the whole output; or 11,
- * and the output as it was. One channel is the pixel's gray, three leave out alpha. */
+ * and the output as it was. One channel is the pixel's gray (Rust's `luma`), three leave out alpha; 3 and 4 channels are
+ * copied with all their bits. A byte is the sample, clamped to 0 to 1, times 255, rounded, halves up; of a NaN it is 0. */
 uint64_t tray_narrow(int64_t wanted, const uint32_t *input, size_t input_length, uint32_t *out, size_t out_length);
 uint64_t tray_narrow_bytes(int64_t wanted, const uint32_t *input, size_t input_length, uint8_t *out, size_t out_length);
 
