@@ -43,7 +43,8 @@ fn found_at_random(count: u64, reading: Reading) -> Option<Case> {
 
 fn main() {
     let cases = cases(&std::env::args().nth(1).unwrap_or(VECTORS.to_string()));
-    let count: u64 = std::env::args().nth(2).and_then(|n| n.parse().ok()).unwrap_or(0);
+    let count =
+        std::env::args().nth(2).map_or(Ok(0), |n| n.parse()).expect("misread [FILE [COUNT]]: COUNT is a number");
     std::panic::set_hook(Box::new(|_| {}));
     let (right, none) = caught(&cases, Reading::RIGHT);
     let right = [right, none].concat();
