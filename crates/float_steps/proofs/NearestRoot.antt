@@ -11,7 +11,7 @@ use lib.Ieee.{binary32, size, nearest, units, ofBits}
 use lib.Ieee.Digits.{size-le}
 use Rattle.float_steps.specs.Root.{IsRoot, nearestRoot}
 use Rattle.float_steps.proofs.Patterns.{size-gt, word-units}
-use Rattle.float_steps.proofs.WholeRoot.{sq-mono, sq-less, square-twice, root-exactly}
+use Rattle.float_steps.proofs.WholeRoot.{sq-mono, sq-less, square-twice, root-exactly, up-to}
 
 -- ---- what `compare` says
 abbrev Cmp : Ordering → ℕ → ℕ → Type 0
@@ -70,9 +70,6 @@ module _ (R r h : ℕ) (even : R % 2 ≡ 0) (lo : 2 ^ 48 ≤ R) (hi : R ≤ 0x3_
   -- r has 25 digits, and (r + 1) / 2 has 24
   r-lo : 2 ^ 24 ≤ r
   r-lo = up-to (2 ^ 24) r (sq-less (2 ^ 24) (r + 1) (lt-of-le-of-lt (le-trans (lit≤ tt) lo) (is .1)))
-    where
-      up-to : (a b : ℕ) → a < b + 1 → a ≤ b
-      up-to a b g = omega arith
 
   -- 2 ^ 50 - 2 ^ 26 is below the square of 2 ^ 25 - 1
   pub r-hi : r < 0x1ff_ffff

@@ -1,7 +1,7 @@
 -- `sqrtOf` where no root is made: of a zero, of plus infinity, of a NaN and of what is below zero; and the words of the values above zero. Assumes nothing.
 use mathlib.Core.Path.{_≡_, refl, sym, ap, subst, _∙_}
 use mathlib.Core.Logic.{inl, inr}
-use mathlib.Core.Bool.{Bool, true, false, cond, _&&_, _||_, Bool·beq, true≢false}
+use mathlib.Core.Bool.{Bool, true, false, cond, _&&_, _||_, Bool·beq, true≢false, or-true}
 use Prim.Native.Nat.{ℕ, zero, suc, _+_, _*_, _/_, _%_, _^_, _<_, _≤_}
 use native.Mathlib.Nat.{le-trans, le-of-eq, lt-of-not-le, mod-eq-of-lt, mul-one, zero-mul, mul-pos, eq-zero-or-pos}
 use native.Mathlib.Omega.{arith}
@@ -44,10 +44,6 @@ unfolding eq
 is-nought s m e z =
     let a : m * up e * 1 ≡ 0 = mul-one (m * up e) ∙ ap (λ (y : ℕ). y * up e) z ∙ zero-mul (up e) in
     ap (λ (y : ℕ). eqb y (0 * down e) && (Bool·beq s false || eqb y 0)) a ∙ ap (λ (y : ℕ). eqb 0 y && (Bool·beq s false || true)) (zero-mul (down e)) ∙ or-true (Bool·beq s false)
-  where
-    or-true : (b : Bool) → (b || true) ≡ true
-    or-true true = refl
-    or-true false = refl
 
 pub sqrt-nan : (v : Float) → lt nought v ≡ false → eq v nought ≡ false → nan ≡ sqrtOf v
 unfolding lt sqrtOf

@@ -20,7 +20,7 @@ square-below x h = lt-of-le-of-lt (sq-mono h) (lit< tt)
 pub sq-less : (a b : ℕ) → a * a < b * b → a < b
 sq-less a b h = lt-of-not-le (λ (g : b ≤ a). not-le-of-lt h (sq-mono g))
 
-up-to : (a b : ℕ) → a < b + 1 → a ≤ b
+pub up-to : (a b : ℕ) → a < b + 1 → a ≤ b
 up-to a b h = omega arith
 
 pub sq-unique : (a b n : ℕ) → IsRoot a n → IsRoot b n → a ≡ b

@@ -1,14 +1,15 @@
 -- No two of the 83 names read the same, and each is read as its operator: two tests computed over the list, and what they say of
 -- its entries. Assumes nothing.
 use mathlib.Core.Path.{_≡_, refl, sym, ap, _∙_}
-use mathlib.Core.Bool.{Bool, true, false, not, _&&_, _||_}
+use mathlib.Core.Bool.{Bool, true, false, not, _&&_, _||_, or-true}
 use mathlib.Core.List.{List, [], _∷_, map}
 use Prim.Native.Nat.{ℕ, zero, suc, _<_}
 use native.Mathlib.Omega.{arith}
 use lib.Dec.{T, T-not, eqb, eqb→eq}
+use lib.Ieee.Fits.{and-l, and-r}
 use lib.ListN.{length, getD, List·getD-map}
 use borrow.Author.Tests.{eq-eqb}
-use Rattle.laws.proofs.Tables.{both, at-each}
+use Rattle.laws.proofs.Tables.{at-each}
 use Rattle.operators.specs.Operators.{numberOf}
 use Rattle.operators.specs.declared.CompositeOp.the-variants.{Over}
 use Rattle.names.specs.Names.{Entry, name, entries, words, numbers, keyOf, same, isKept, lower, fromName}
@@ -28,17 +29,13 @@ same-refl : (w : List ℕ) → same w w ≡ true
 same-refl [] = refl
 same-refl (b ∷ w) = rw (eq-eqb b b refl, same-refl w)
 
-or-true : (b : Bool) → (b || true) ≡ true
-or-true true = refl
-or-true false = refl
-
 among-at : (x : List ℕ) (ws : List (List ℕ)) (j : ℕ) → j < length ws → x ≡ getD ws j [] → among x ws ≡ true
 among-at x [] j h e = absurd (omega arith)
 among-at x (w ∷ ws) zero h e = rw (e, same-refl w)
 among-at x (w ∷ ws) (suc j) h e = rw (among-at x ws j (omega arith) e) (or-true (same x w))
 
 apart : (w : List ℕ) (ws : List (List ℕ)) (j : ℕ) → T (distinct (w ∷ ws)) → j < length ws → w ≡ getD ws j [] → ⊥
-apart w ws j t h e = T-not (among w ws) (both (not (among w ws)) (distinct ws) t .0) (rw (among-at w ws j h e) tt)
+apart w ws j t h e = T-not (among w ws) (and-l (not (among w ws)) (distinct ws) t) (rw (among-at w ws j h e) tt)
 
 -- the places of equal words of a distinct list are equal
 distinct-at : (ws : List (List ℕ)) → T (distinct ws) → (i j : ℕ) → i < length ws → j < length ws → getD ws i [] ≡ getD ws j [] → i ≡ j
@@ -46,7 +43,7 @@ distinct-at [] t i j h g e = absurd (omega arith)
 distinct-at (w ∷ ws) t zero zero h g e = refl
 distinct-at (w ∷ ws) t zero (suc j) h g e = absurd (apart w ws j t (omega arith) e)
 distinct-at (w ∷ ws) t (suc i) zero h g e = absurd (apart w ws i t (omega arith) (sym e))
-distinct-at (w ∷ ws) t (suc i) (suc j) h g e = ap suc (distinct-at ws (both (not (among w ws)) (distinct ws) t .1) i j (omega arith) (omega arith) e)
+distinct-at (w ∷ ws) t (suc i) (suc j) h g e = ap suc (distinct-at ws (and-r (not (among w ws)) (distinct ws) t) i j (omega arith) (omega arith) e)
 
 -- what the names are read as
 unfoldable pub keys : List (List ℕ)

@@ -10,6 +10,7 @@ use lib.Seq.{getD-append-add, getD-take}
 use Rattle.float_steps.specs.Words.{wordOf}
 use Rattle.pictures.specs.declared.Words.{Words}
 use Rattle.pictures.specs.Widen.{wordsOf, fourAt, rgbaAt, valuesOf}
+use Rattle.pictures.proofs.FlatWords.{rgba-further}
 use Rattle.layers.specs.Cells.{Channels}
 use Rattle.narrowing.specs.Luma.{lumaOf}
 use Rattle.narrowing.specs.Narrow.{narrowedPixel, narrowedOf}
@@ -37,18 +38,9 @@ length-narrowed k (r ∷ g ∷ b ∷ a ∷ rest) h =
 
 -- ---- which one stands where
 
-four-past : (r g b a : ℕ) (rest : List ℕ) (j : ℕ) → fourAt (r ∷ g ∷ b ∷ a ∷ rest) (4 * suc j) ≡ fourAt rest (4 * j)
-four-past r g b a rest j = rw (first j, past j 1, past j 2, past j 3)
-  where
-    first : (j : ℕ) → 4 * suc j ≡ suc (suc (suc (suc (4 * j))))
-    first j = omega arith
-
-    past : (j c : ℕ) → suc (suc (suc (suc (4 * j)))) + c ≡ suc (suc (suc (suc (4 * j + c))))
-    past j c = omega arith
-
 -- word c of pixel j
 pub narrowed-word : (k : ℕ) (input : List ℕ) (j c : ℕ) → Channels k → c < k → 4 * j + 4 ≤ length input → getD (narrowedOf k input) (j * k + c) 0 ≡ getD (narrowedPixel k (fourAt input (4 * j))) c 0
-unfolding narrowedOf
+unfolding narrowedOf rgbaAt
 narrowed-word k [] j c h l i = absurd (omega arith)
 narrowed-word k (r ∷ []) j c h l i = absurd (omega arith)
 narrowed-word k (r ∷ g ∷ []) j c h l i = absurd (omega arith)
@@ -62,7 +54,7 @@ narrowed-word k (r ∷ g ∷ b ∷ a ∷ rest) (suc j) c h l i =
     ap (λ n. getD (p ++ narrowedOf k rest) n 0) e
     ∙ getD-append-add p (narrowedOf k rest) (j * k + c) 0
     ∙ narrowed-word k rest j c h l (omega arith)
-    ∙ ap (λ w. getD (narrowedPixel k w) c 0) (sym (four-past r g b a rest j))
+    ∙ ap (λ w. getD (narrowedPixel k w) c 0) (sym (rgba-further r g b a rest j))
 
 -- the gray of pixel i
 pub gray-word : (k : ℕ) (input : List ℕ) (i : ℕ) → k ≡ 1 → 4 * i + 4 ≤ length input → wordOf (lumaOf (valuesOf (rgbaAt input 4 i))) ≡ getD (narrowedOf k input) i 0

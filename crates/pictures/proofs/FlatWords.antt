@@ -80,14 +80,14 @@ part-at l n i =
     let e : 4 * n + 4 * i ≡ 4 * (n + i) = omega arith in
     simp (getD-drop, ← e, add-assoc)
 
--- a pixel further on
+-- past the first four words every word stands four places, and every pixel one place, earlier
 further : (a b c d : ℕ) (xs : List ℕ) (j x : ℕ) → getD (a ∷ b ∷ c ∷ d ∷ xs) (4 * suc j + x) 0 ≡ getD xs (4 * j + x) 0
 further a b c d xs j x = ap (λ (y : ℕ). getD (a ∷ b ∷ c ∷ d ∷ xs) y 0) four
   where
     four : 4 * suc j + x ≡ suc (suc (suc (suc (4 * j + x))))
     four = omega arith
 
-rgba-further : (a b c d : ℕ) (xs : List ℕ) (j : ℕ) → rgbaAt (a ∷ b ∷ c ∷ d ∷ xs) 4 (suc j) ≡ rgbaAt xs 4 j
+pub rgba-further : (a b c d : ℕ) (xs : List ℕ) (j : ℕ) → rgbaAt (a ∷ b ∷ c ∷ d ∷ xs) 4 (suc j) ≡ rgbaAt xs 4 j
 unfolding rgbaAt
 rgba-further a b c d xs j =
     let l = a ∷ b ∷ c ∷ d ∷ xs in
