@@ -272,6 +272,15 @@ pub fn alone(case: &Case) -> String {
     Writer::default().line(case)
 }
 
+/// Such a line in its two parts: what is asked, and what must be answered.
+pub fn parts(case: &Case) -> (String, String) {
+    let mut writer = Writer::default();
+    writer.request(&case.request);
+    let asked = std::mem::take(&mut writer.line);
+    writer.outcome(&case.expected);
+    (asked, writer.line)
+}
+
 /// Reads lines.
 #[derive(Default)]
 pub struct Reader {
@@ -393,9 +402,9 @@ impl Reader {
         self.request(kind, &mut tokens)
     }
 
-    /// A whole line; `None` for a comment.
+    /// A whole line; `None` for a comment and for a spoiled line.
     pub fn case(&mut self, line: &str) -> Result<Option<Case>, String> {
-        if line.is_empty() || line.starts_with('#') {
+        if line.is_empty() || line.starts_with(['#', '!']) {
             return Ok(None);
         }
         let mut tokens = line.split(' ');

@@ -23,8 +23,10 @@ ghost use Prim.Native.Nat.{_<_};
 // A proved loop has to end, and nothing says that the input does: so many lines are read at most.
 const MOST_LINES: u64 = 0x1_0000_0000;
 
-// The kinds of lines, and how many there are; the last is that of lines of no kind.
-const KINDS: usize = 6;
+// The kinds of lines, and how many there are; the last two are lines of no kind, and spoiled ones.
+const KINDS: usize = 7;
+
+const SPOILED: usize = 6;
 
 fn kind_of(first: u8) -> usize
     ensures { λ r. ⌜ r < 6 ⌝ }
@@ -69,7 +71,7 @@ fn raised(n: u64) -> u64 {
 
 // Counts a line as right or wrong with its kind, and answers whether it is right.
 fn count(kind: usize, is_right: bool, right: &mut [u64; KINDS], wrong: &mut [u64; KINDS]) -> bool
-    requires { ⌜ kind < 6 ⌝ }
+    requires { ⌜ kind < 7 ⌝ }
 {
     if is_right {
         right[kind] = raised(right[kind]);
@@ -79,7 +81,23 @@ fn count(kind: usize, is_right: bool, right: &mut [u64; KINDS], wrong: &mut [u64
     is_right
 }
 
-// Replays and counts a line; false where it is wrong. A line that is empty or starts with '#' asks nothing.
+// What a line asks: a spoiled line stands after '!'.
+fn asked(line: &[u8]) -> &[u8] {
+    let one: usize = 1;
+    if one <= line.len() {
+        if line[0] == b'!' {
+            return &line[one..];
+        }
+    }
+    line
+}
+
+fn first(line: &[u8]) -> u8 {
+    if 0 < line.len() { line[0] } else { 0 }
+}
+
+// Replays and counts a line; false where it is wrong. A line that is empty or starts with '#' asks nothing. One after '!' is spoiled: it is right that it
+// is not taken.
 fn is_right(
     room: &Line,
     length: usize,
@@ -98,8 +116,8 @@ fn is_right(
     if length == 0 || room[0] == b'#' {
         return true;
     }
-    let line = first_bytes(room, length);
-    let kind = kind_of(room[0]);
+    let line = asked(first_bytes(room, length));
+    let kind = kind_of(first(line));
     let place = replayed(
         line,
         kind,
@@ -113,6 +131,9 @@ fn is_right(
         mark,
         counts,
     );
+    if room[0] == b'!' {
+        return count(SPOILED, place != line.len(), right, wrong);
+    }
     count(kind, place == line.len(), right, wrong)
 }
 
@@ -186,6 +207,7 @@ fn main() {
     report(b"compositions", right[3], wrong[3]);
     report(b"jobs", right[4], wrong[4]);
     report(b"lines of no kind", right[5], wrong[5]);
+    report(b"spoiled lines", right[6], wrong[6]);
     report_first(first_wrong);
 }
 

@@ -16,8 +16,15 @@ fn main() {
     let text = text.unwrap_or_else(|e| panic!("{path}: {e}"));
     let side: Box<dyn Side> = ours::linked().unwrap_or(Box::new(Restated { reading: Reading::RIGHT }));
     let mut reader = Reader::default();
-    let (mut cases, mut bad) = (0, 0);
+    let (mut cases, mut bad, mut spoiled) = (0, 0, 0);
     for (i, line) in text.lines().enumerate() {
+        if let Some(rest) = line.strip_prefix('!') {
+            spoiled += 1;
+            if matches!(Reader::default().case(rest), Ok(Some(case)) if agrees(&*side, &case)) {
+                bad += 1;
+                println!("line {} is spoiled, and is taken: {rest}", i + 1);
+            }
+        }
         let case = reader.case(line).unwrap_or_else(|e| panic!("{path}, line {}: {e}", i + 1));
         let Some(case) = case else { continue };
         cases += 1;
@@ -29,6 +36,6 @@ fn main() {
             }
         }
     }
-    println!("{cases} cases, {bad} answered otherwise");
+    println!("{cases} cases and {spoiled} spoiled lines, {bad} answered otherwise");
     std::process::exit((bad > 0) as i32)
 }

@@ -1,6 +1,7 @@
 //! vectors [FILE]: writes the fixed vectors to crates/vectors/stdin, or to FILE.
 //!
-//! One case a line; a line that starts with '#' is a comment. Tokens are separated by one space.
+//! One case a line; a line that starts with '#' is a comment, one that starts with '!' is spoiled: what stands after it
+//! must not be taken. Tokens are separated by one space.
 //!
 //! - NUMBER: small hexadecimal digits without leading zeros. A signed number below zero is '~' and the digits
 //!   of its complement, -1 - n: ~0 is -1, ~4 is -5.

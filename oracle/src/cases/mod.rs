@@ -7,6 +7,7 @@ mod narrowing;
 mod operators;
 mod placing;
 mod refusals;
+mod spoiled;
 mod traps;
 
 use crate::compare::expected;
@@ -70,6 +71,7 @@ pub fn all() -> Book {
     traps::put(&mut book);
     refusals::put(&mut book);
     jobs::put(&mut book);
+    spoiled::put(&mut book);
     book
 }
 

@@ -1,0 +1,67 @@
+//! Lines that must not be taken: out of form, or with an answer that is not the library's. Without them a program that
+//! takes every line would pass. Each stands after '!', and alone: none has '=' for a list of another line.
+
+use super::{Book, pairs};
+use crate::compare::{agrees, expected};
+use crate::lines::{Case, Reader, Request, parts};
+use crate::model::Reference;
+use crate::request::Memory;
+
+/// A case of each kind, small enough that every number of its answer is spoiled in turn.
+fn cases() -> Vec<Case> {
+    let job = pairs(6, &[([0.25, 0.5, 0.75, 1.0], [0.5, 0.75, 1.0, 0.5])], &[]);
+    let input = job.dst.clone();
+    let memory = Memory { work: [vec![1; 4], vec![2; 4]], mark: vec![0] };
+    let requests = [
+        Request::Name(b"Soft-Light".to_vec()),
+        Request::Name(b"softer".to_vec()),
+        Request::Narrow { wanted: 3, input: input.clone(), length: 3 },
+        Request::Narrow { wanted: 2, input: input.clone(), length: 2 },
+        Request::Bytes { wanted: 4, input, length: 4 },
+        Request::Compose { job: job.clone(), length: 4 },
+        Request::Compose { job: job.clone(), length: 5 },
+        Request::Calls { job, memory, allowances: vec![3, 100, 0] },
+    ];
+    requests.into_iter().map(expected).collect()
+}
+
+/// A token changed: a number by one, and '=' to an empty list.
+fn changed(token: &str) -> String {
+    match u64::from_str_radix(token, 16) {
+        Ok(n) => format!("{:x}", n ^ 1),
+        Err(_) => "0".to_string(),
+    }
+}
+
+/// The ways to spoil a line of these two parts, what is asked and what must be answered.
+fn spoiled(asked: &str, answered: &str) -> Vec<String> {
+    let tokens: Vec<&str> = answered.split(' ').skip(1).collect();
+    let with = |i: usize, token: &str| {
+        let all = tokens.iter().enumerate().map(|(k, t)| format!(" {}", if k == i { token } else { t }));
+        format!("{asked}{}", all.collect::<String>())
+    };
+    let mut lines: Vec<String> = (0..tokens.len()).map(|i| with(i, &changed(tokens[i]))).collect();
+    lines.push(with(0, &format!("0{}", tokens[0])));
+    lines.push(with(0, &format!(" {}", tokens[0])));
+    lines.push(with(0, &format!("+{}", tokens[0])));
+    // More than 64 bits, whose low ones are right.
+    lines.push(with(0, &format!("1{:0>16}", tokens[0])));
+    lines.push(format!("{asked}{answered} 0"));
+    lines.push(format!("{asked}{answered} "));
+    lines.push(format!("{asked}{}", answered.rsplit_once(' ').map_or("", |(most, _)| most)));
+    lines.push(format!("{asked}{answered}").to_uppercase());
+    lines.retain(|line| *line != format!("{asked}{answered}"));
+    lines
+}
+
+pub fn put(book: &mut Book) {
+    book.note("spoiled: none of these may be taken");
+    for case in cases() {
+        let (asked, answered) = parts(&case);
+        for line in spoiled(&asked, &answered) {
+            let taken = matches!(Reader::default().case(&line), Ok(Some(case)) if agrees(&Reference, &case));
+            assert!(!taken, "{line} is not spoiled");
+            book.text += &format!("!{line}\n");
+        }
+    }
+}
