@@ -1,13 +1,11 @@
 -- `fill_bytes` meets its contract. The invariant: i numbers are read and stand in the list, and `at` is the place after them. The measure is how
 -- many are left. Assumes nothing.
-use Prim.Native.Nat.{_≤_, _<_, _-_}
-use mathlib.Core.Path.{_≡_, sym, subst, ap, _∙_}
+use Prim.Native.Nat.{_≤_, _-_}
+use mathlib.Core.Path.{_≡_}
 use native.Mathlib.Omega.{arith}
 use borrow.Author.Needs.{needs}
-use lib.ListN.{length}
-use Rattle.vector_lines.specs.Numbers.{numberAt}
 use Rattle.vector_lines.specs.Lists.{endOf, numbersOf}
-use Rattle.vector_lines.proofs.Filling.{first-place, none-filled, next-place, one-filled, length-filled}
+use Rattle.vector_lines.proofs.Filling.{no-number, number-read, number-room}
 use Rattle.vector_lines.proofs.lists.fill_bytes.Statement.{statement}
 use Rattle.vector_lines.proofs.lists.fill_bytes.Tie as tie
 
@@ -19,11 +17,9 @@ abbrev μ-loop : tie.MeasureT-loop
 
 loop-holds : tie.Need-loop-holds Inv-loop μ-loop
 loop-holds c =
-    let s = c .before .before .args in (
-      omega arith,
-      first-place (λ at. numberAt 255 (s .line .now) at .value) (λ at. numberAt 255 (s .line .now) at .next) (s .from) (s .list .now),
-      none-filled (λ at. numberAt 255 (s .line .now) at .value) (λ at. numberAt 255 (s .line .now) at .next) (s .from) (s .list .now),
-    )
+    let s = c .before .before .args in
+    let start = no-number 255 (s .line .now) (s .from) (s .list .now) in
+    (omega arith, start .0, start .1)
 
 number-up-to-requires : tie.Need-number-up-to-requires Inv-loop μ-loop
 number-up-to-requires c κs = search needs
@@ -35,7 +31,7 @@ slice-write-list : tie.Need-slice-write-list Inv-loop μ-loop
 slice-write-list c =
     let l = c .before .before .before in
     let s = l .before .before .before .args in
-    let long = ap length (l .loop .inv .2) ∙ length-filled (λ at. numberAt 255 (s .line .now) at .value) (λ at. numberAt 255 (s .line .now) at .next) (s .from) (s .list .now) (l .loop .i) in
+    let long = number-room 255 (s .line .now) (s .from) (s .list .now) (l .loop .i) (l .loop .list) (l .loop .inv .2) in
     omega (arith, long)
 
 add-i : tie.Need-add-i Inv-loop μ-loop
@@ -48,17 +44,15 @@ loop-again : tie.Need-loop-again Inv-loop μ-loop
 loop-again c =
     let n = c .before .number-up-to in
     let l = c .before .before .before in
-    let s = l .before .before .before .args in (
-      omega arith,
-      rw (n .ensures .0) (next-place (λ at. numberAt 255 (s .line .now) at .value) (λ at. numberAt 255 (s .line .now) at .next) (s .from) (s .list .now) (l .loop .i) (l .loop .at) (l .loop .inv .1)),
-      rw (n .ensures .0) (one-filled (λ at. numberAt 255 (s .line .now) at .value) (λ at. numberAt 255 (s .line .now) at .next) (s .from) (s .list .now) (l .loop .i) (l .loop .at) (l .loop .inv .1) (l .loop .list) (l .loop .inv .2)),
-    )
+    let s = l .before .before .before .args in
+    let step = number-read 255 (s .line .now) (s .from) (s .list .now) (l .loop .i) (l .loop .at) (l .loop .list) (n .result) (l .loop .inv .1) (l .loop .inv .2) (n .ensures .0) in
+    (omega arith, step .0, step .1)
 
 same-length : tie.Need-same-length Inv-loop μ-loop
 same-length c =
     let l = c .before in
     let s = l .before .before .before .args in
-    ap length (l .loop .inv .2) ∙ length-filled (λ at. numberAt 255 (s .line .now) at .value) (λ at. numberAt 255 (s .line .now) at .next) (s .from) (s .list .now) (l .loop .i)
+    number-room 255 (s .line .now) (s .from) (s .list .now) (l .loop .i) (l .loop .list) (l .loop .inv .2)
 
 returns : tie.Need-returns Inv-loop μ-loop
 returns c =

@@ -1,15 +1,11 @@
 -- `fill_integers` meets its contract. The invariant: i numbers are read and stand in the list, and `at` is the place after them. The measure is how
 -- many are left. Assumes nothing.
-use Prim.Native.Nat.{_≤_, _<_, _-_}
-use mathlib.Core.Path.{_≡_, sym, subst, ap, _∙_}
+use Prim.Native.Nat.{_≤_, _-_}
+use mathlib.Core.Path.{_≡_}
 use native.Mathlib.Omega.{arith}
 use borrow.Author.Needs.{needs}
-use lib.ListN.{length}
-use mir.Facts.{toZ-ofZ}
-use Rattle.vector_lines.specs.Numbers.{signedAt}
 use Rattle.vector_lines.specs.Lists.{signedEnd, integersOf}
-use Rattle.vector_lines.proofs.Digits.{signed-fits}
-use Rattle.vector_lines.proofs.Filling.{first-place, none-filled, next-place, one-filled, length-filled}
+use Rattle.vector_lines.proofs.Filling.{no-integer, integer-read, integer-room}
 use Rattle.vector_lines.proofs.lists.fill_integers.Statement.{statement}
 use Rattle.vector_lines.proofs.lists.fill_integers.Tie as tie
 
@@ -21,23 +17,21 @@ abbrev μ-loop : tie.MeasureT-loop
 
 loop-holds : tie.Need-loop-holds Inv-loop μ-loop
 loop-holds c =
-    let s = c .before .args in (
-      omega arith,
-      first-place (λ at. signedAt (s .line .now) at .value) (λ at. signedAt (s .line .now) at .next) (s .from) (s .list .now),
-      none-filled (λ at. signedAt (s .line .now) at .value) (λ at. signedAt (s .line .now) at .next) (s .from) (s .list .now),
-    )
+    let s = c .before .args in
+    let start = no-integer (s .line .now) (s .from) (s .list .now) in
+    (omega arith, start .0, start .1)
 
 signed-requires : tie.Need-signed-requires Inv-loop μ-loop
 signed-requires c κs = search needs
 
 mul-z : tie.Need-mul-z Inv-loop μ-loop
-mul-z c = let l = c .before .before .before in search needs
+mul-z c = search needs
 
 slice-set-from-z : tie.Need-slice-set-from-z Inv-loop μ-loop
 slice-set-from-z c =
     let l = c .before .before .before in
     let s = l .before .before .args in
-    let long = ap length (l .loop .inv .2) ∙ length-filled (λ at. signedAt (s .line .now) at .value) (λ at. signedAt (s .line .now) at .next) (s .from) (s .list .now) (l .loop .i) in
+    let long = integer-room (s .line .now) (s .from) (s .list .now) (l .loop .i) (l .loop .list) (l .loop .inv .2) in
     omega (arith, long)
 
 add-i : tie.Need-add-i Inv-loop μ-loop
@@ -50,17 +44,15 @@ loop-again : tie.Need-loop-again Inv-loop μ-loop
 loop-again c =
     let n = c .before .signed in
     let l = c .before .before .before in
-    let s = l .before .before .args in (
-      omega arith,
-      rw (n .ensures) (next-place (λ at. signedAt (s .line .now) at .value) (λ at. signedAt (s .line .now) at .next) (s .from) (s .list .now) (l .loop .i) (l .loop .at) (l .loop .inv .1)),
-      rw (n .ensures, toZ-ofZ (signed-fits (s .line .now) (l .loop .at))) (one-filled (λ at. signedAt (s .line .now) at .value) (λ at. signedAt (s .line .now) at .next) (s .from) (s .list .now) (l .loop .i) (l .loop .at) (l .loop .inv .1) (l .loop .list) (l .loop .inv .2)),
-    )
+    let s = l .before .before .args in
+    let step = integer-read (s .line .now) (s .from) (s .list .now) (l .loop .i) (l .loop .at) (l .loop .list) (n .result) (l .loop .inv .1) (l .loop .inv .2) (n .ensures) in
+    (omega arith, step .0, step .1)
 
 same-length : tie.Need-same-length Inv-loop μ-loop
 same-length c =
     let l = c .before in
     let s = l .before .before .args in
-    ap length (l .loop .inv .2) ∙ length-filled (λ at. signedAt (s .line .now) at .value) (λ at. signedAt (s .line .now) at .next) (s .from) (s .list .now) (l .loop .i)
+    integer-room (s .line .now) (s .from) (s .list .now) (l .loop .i) (l .loop .list) (l .loop .inv .2)
 
 returns : tie.Need-returns Inv-loop μ-loop
 returns c =

@@ -1,9 +1,8 @@
 -- `digits` meets its contract: a first digit, which is no zero before others, and those after it. Assumes nothing.
-use mathlib.Core.Path.{sym, _∙_}
+use mathlib.Core.Path.{_∙_}
 use mathlib.Core.Logic.{⊎-elim}
 use native.Mathlib.Omega.{arith}
 use borrow.Author.Needs.{needs}
-use borrow.Author.Tests.{eq-eqb, ne-eqb}
 use Rattle.vector_lines.proofs.Digits.{in-line, no-digits, zero-first, zero-alone, other-first}
 use Rattle.vector_lines.proofs.numbers.digits.Statement.{statement}
 use Rattle.vector_lines.proofs.numbers.digits.Tie as tie

@@ -1,7 +1,7 @@
 -- `more_digits` meets its contract. The invariant: what is left spells, after the value so far, the number that all the digits spell, and
 -- ends where they end; d is the digit at hand. The measure is what is left of the line. Assumes nothing.
 use Prim.Native.Nat.{_+_, _-_, _≤_}
-use mathlib.Core.Path.{_≡_, refl, sym, _∙_}
+use mathlib.Core.Path.{_≡_, refl, _∙_}
 use native.Mathlib.Omega.{arith}
 use borrow.Author.Needs.{needs}
 use lib.ListN.{length, drop}

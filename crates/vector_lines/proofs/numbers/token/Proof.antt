@@ -1,5 +1,4 @@
 -- `token` meets its contract: the test is the definition's. Assumes nothing.
-use mathlib.Core.Path.{sym, _∙_}
 use borrow.Author.Needs.{needs}
 use borrow.Author.Tests.{eq-eqb, ne-eqb}
 use Rattle.vector_lines.proofs.numbers.token.Statement.{statement}
