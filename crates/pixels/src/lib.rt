@@ -1,12 +1,12 @@
 // `pixel` of composite.rs: one pixel of the source on one of the destination, for each operator. Its contract cites specs/Pixel.antt.
-// The match is the one place where an operator is chosen: its number, as `CompositeOp::ALL` has it, and the function that names its convention and its
-// blend. Interpolate is not carried; Displace, Distort and Blur have composite.rs's line, and composition goes another way for them.
+// The match chooses an operator's function, beside its number, as `CompositeOp::ALL` has it; a mathematical operator names its convention, and itself for
+// its blend. Interpolate is not carried; Displace, Distort and Blur have composite.rs's line, and composition goes another way for them.
 ghost use mathlib.Core.Path.{_≡_};
 ghost use Rattle.operators.specs.Operators.{operators, Is};
 ghost use Rattle.pixels.specs.Pixel.{pixelAt, pixelOf};
 
 pub mod colours; // colours.rt: the operators on hue, intensity and single channels
-pub mod conventions; // conventions.rt: how a mathematical operator combines its blend with the alphas
+pub mod conventions; // conventions.rt: how a mathematical operator combines its blend with the alphas, for one channel
 pub mod mathematical; // mathematical.rt: the mathematical operators
 pub mod porter_duff; // porter_duff.rt: Porter and Duff's operators, Blend and Dissolve
 
