@@ -39,7 +39,7 @@ none-by false v f e h = let x : true ≡ false = sym (eq-eqb (v .number) 0 h) �
 pub record Held (pixels end : ℕ) (m : Mem) : Type 0 where
   pub work0-length : length (m .work0) ≡ 4 * pixels
   pub work1-length : length (m .work1) ≡ 4 * pixels
-  pub mark-length : length (m .mark) ≡ 1
+  pub checkpoint-length : length (m .checkpoint) ≡ 1
   pub within : positionOf m ≤ end
 
 cond-zero : (b : Bool) (x n : ℕ) → cond b x (suc n) ≡ 0 → (b ≡ true) × (x ≡ 0)
@@ -55,18 +55,18 @@ unfolding memoryFault
 held pixels end m e =
     let a = cond-zero (eqb (length (m .work0)) (4 * pixels)) _ 8 e in
     let b = cond-zero (eqb (length (m .work1)) (4 * pixels)) _ 8 (a .1) in
-    let d = cond-zero (eqb (length (m .mark)) 1) _ 9 (b .1) in
+    let d = cond-zero (eqb (length (m .checkpoint)) 1) _ 9 (b .1) in
     record {
       work0-length = eqb-true _ _ (a .0);
       work1-length = eqb-true _ _ (b .0);
-      mark-length = eqb-true _ _ (d .0);
+      checkpoint-length = eqb-true _ _ (d .0);
       within = ltb-false end (positionOf m) (not-past (ltb end (positionOf m)) 9 (d .1));
     }
 
 pub held-none : (pixels end : ℕ) (m : Mem) → Held pixels end m → memoryFault pixels end m ≡ 0
 unfolding memoryFault
 held-none pixels end m h =
-    simp (eq-eqb _ _ (h .work0-length), eq-eqb _ _ (h .work1-length), eq-eqb _ _ (h .mark-length), le-ltb end (positionOf m) (h .within))
+    simp (eq-eqb _ _ (h .work0-length), eq-eqb _ _ (h .work1-length), eq-eqb _ _ (h .checkpoint-length), le-ltb end (positionOf m) (h .within))
 
 -- ---- bounds of accepted inputs
 
@@ -125,7 +125,7 @@ module _ (i : Inputs) (m : Mem) (e : callFault i m .number ≡ 0) where
         dst-length = a .dst;
         work0-length = omega (arith, h .work0-length);
         work1-length = omega (arith, h .work1-length);
-        marked = omega (arith, h .mark-length);
+        marked = omega (arith, h .checkpoint-length);
       }
 
   pub due : (allowance : ℕ) → Due (settingOf i) (positionOf m) (madeOf i allowance m) m

@@ -19,8 +19,8 @@ use Rattle.job.specs.declared.Write.{Write}
 use Rattle.job.specs.Memory.{Mem, memOf, positionOf, stored, workOf}
 use Rattle.job.specs.Job.{pixelCount, layerCount, endOf, callFault, acceptance, refusal}
 use Rattle.job.specs.Call.{madeOf, leftBy, Outcome, acceptedOf, callOf}
-use Rattle.job.specs.Model.{pictureOf, writeSequence, entriesOf, Buffer, own0, own1, other, Marker, own, foreign, lentBuffer, lentMarker, Loan, lent, Call, allowed, cut, refused, Seen, modelOf}
-use Rattle.job.specs.Demand.{is0, is1, markReturned, returned, programOf, history, memoryAfter, FairCall, Fair, beneathIn, beneathOf, Underway, Demand3}
+use Rattle.job.specs.Model.{pictureOf, writeSequence, entriesOf, Buffer, own0, own1, other, CheckpointPlace, own, foreign, lentBuffer, lentCheckpoint, Loan, lent, Call, allowed, cut, refused, Seen, modelOf}
+use Rattle.job.specs.Demand.{is0, is1, checkpointReturned, returned, programOf, history, memoryAfter, FairCall, Fair, beneathIn, beneathOf, Underway, Demand3}
 use Rattle.job.proofs.Writes.{le-or-lt}
 use Rattle.job.proofs.Runs.{place-div}
 use Rattle.job.proofs.Sequence.{picture-length}
@@ -61,14 +61,14 @@ back1 own0 m x e = e
 back1 own1 m x e = refl
 back1 (other xs) m x e = e
 
-back-mark : (p : Marker) (m : Mem) → markReturned p (lentMarker p m) (m .mark) ≡ m .mark
-back-mark own m = refl
-back-mark (foreign xs) m = refl
+back-checkpoint : (p : CheckpointPlace) (m : Mem) → checkpointReturned p (lentCheckpoint p m) (m .checkpoint) ≡ m .checkpoint
+back-checkpoint own m = refl
+back-checkpoint (foreign xs) m = refl
 
 -- what is returned as it was lent leaves the job's memory as it was
 returned-same : (l : Loan) (m : Mem) → returned l m (lent l m) ≡ m
 returned-same l m =
-    same (back0 (l .place0) m _ (back0 (l .place1) m (m .work0) refl)) (back1 (l .place0) m _ (back1 (l .place1) m (m .work1) refl)) (back-mark (l .checkpoint) m)
+    same (back0 (l .place0) m _ (back0 (l .place1) m (m .work0) refl)) (back1 (l .place0) m _ (back1 (l .place1) m (m .work1) refl)) (back-checkpoint (l .checkpoint) m)
   where
     same : {a a′ b b′ c c′ : List ℕ} → a ≡ a′ → b ≡ b′ → c ≡ c′ → memOf a b c ≡ memOf a′ b′ c′
     same e f g = cc
@@ -86,7 +86,7 @@ module _ (i : Inputs) (fit : jobFault i .number ≡ 0) where
   ok-call : (m : Mem) → Ok m → callFault i m .number ≡ 0
   ok-call m v =
       call-none i m fit
-      record { work0-length = v .work0-length; work1-length = v .work1-length; mark-length = ap length (v .marked); within = v .within }
+      record { work0-length = v .work0-length; work1-length = v .work1-length; checkpoint-length = ap length (v .marked); within = v .within }
 
   made-call : (n : ℕ) (m : Mem) → Ok m → Made i m (positionOf m) (madeOf i n m)
   made-call n m v = made i m (positionOf m) (madeOf i n m) (min-le-right n _) v

@@ -109,7 +109,7 @@ module _ (s : Setting) (k from count rest : ℕ) (m : Mem) (l : Layer) (p : Plan
 
 -- ---- stretch after stretch
 
-pub sized-still : (s : Setting) (m m′ : Mem) → Sized s m → length (m′ .work0) ≡ length (m .work0) → length (m′ .work1) ≡ length (m .work1) → length (m′ .mark) ≡ length (m .mark) → Sized s m′
+pub sized-still : (s : Setting) (m m′ : Mem) → Sized s m → length (m′ .work0) ≡ length (m .work0) → length (m′ .work1) ≡ length (m .work1) → length (m′ .checkpoint) ≡ length (m .checkpoint) → Sized s m′
 sized-still s m m′ z a b d = record {
   wide = z .wide;
   high = z .high;

@@ -21,7 +21,7 @@ use Rattle.job.specs.Model.{pictureOf, writeSequence}
 use Rattle.job.proofs.Flat.{channel-at}
 use Rattle.job.proofs.Runs.{place-div, place-mod}
 use Rattle.job.proofs.Sequence.{picture-length, sequence-length, due-pixel, sequence-five, write-right}
-use Rattle.job.proofs.Writes.{le-or-lt, stored-snoc, word-at, word-same, word-other, word-mark, word-length0, word-length1}
+use Rattle.job.proofs.Writes.{le-or-lt, stored-snoc, word-at, word-same, word-other, word-checkpoint, word-length0, word-length1}
 
 -- at write c of pixel j of picture k: this picture is right up to there, and the one beneath is whole
 pub record Here (i : Inputs) (m : Mem) (k j c : ℕ) : Type 0 where
@@ -32,7 +32,7 @@ pub record Here (i : Inputs) (m : Mem) (k j c : ℕ) : Type 0 where
 pub record Progress (i : Inputs) (m : Mem) (p c : ℕ) : Type 0 where
   pub work0-length : length (m .work0) ≡ 4 * pixelCount i
   pub work1-length : length (m .work1) ≡ 4 * pixelCount i
-  pub marked : m .mark ≡ p ∷ []
+  pub marked : m .checkpoint ≡ p ∷ []
   pub within : p ≤ endOf i
   pub here : 0 < pixelCount i → Here i m (p / pixelCount i) (p % pixelCount i) c
 
@@ -78,7 +78,7 @@ module _ (i : Inputs) (m : Mem) (p : ℕ) (room : p < endOf i) where
       record {
         work0-length = word-length0 (4 * j + c) word m k ∙ v .work0-length;
         work1-length = word-length1 (4 * j + c) word m k ∙ v .work1-length;
-        marked = word-mark (4 * j + c) word m k ∙ v .marked;
+        marked = word-checkpoint (4 * j + c) word m k ∙ v .marked;
         within = v .within;
         here = λ z. record { right = right; below = below };
       }
@@ -109,8 +109,8 @@ module _ (i : Inputs) (m : Mem) (p : ℕ) (room : p < endOf i) where
           (word-other (4 * j + c) word m b ∙ v .here pos .below b e)
 
   -- the position
-  pub step-mark : Progress i m p 4 → Progress i (put (getD (writeSequence i) (5 * p + 4) (Checkpoint 0)) m) (p + 1) 0
-  step-mark v =
+  pub step-checkpoint : Progress i m p 4 → Progress i (put (getD (writeSequence i) (5 * p + 4) (Checkpoint 0)) m) (p + 1) 0
+  step-checkpoint v =
       rw entry
       record {
         work0-length = v .work0-length;
@@ -213,7 +213,7 @@ made-next i m r p t h e v = (
         let b : p + suc t / 5 ≡ q + 1 = omega arith in
         let d : suc t % 5 ≡ 0 = omega arith in
         let f : Progress i r q 4 = subst (λ (x : ℕ). Progress i r q x) a v in
-        rw (b, d) (subst (λ (x : ℕ). Progress i (put (getD (writeSequence i) (5 * q + x) (Checkpoint 0)) r) (q + 1) 0) (sym a) (step-mark i r q room f)))
+        rw (b, d) (subst (λ (x : ℕ). Progress i (put (getD (writeSequence i) (5 * q + x) (Checkpoint 0)) r) (q + 1) 0) (sym a) (step-checkpoint i r q room f)))
         (λ l.
         let b : p + suc t / 5 ≡ q = omega arith in
         let d : suc t % 5 ≡ c + 1 = omega arith in

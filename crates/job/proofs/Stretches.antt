@@ -20,7 +20,7 @@ use Rattle.job.specs.Call.{Setting, area, pixelOf, runOf}
 use Rattle.job.specs.Steps.{someOf, pixelsOf, stretchOf, phasePixel, Whole, Raised, Room, PixelAhead, StretchAhead}
 use Rattle.pictures.proofs.FlatWords.{flat-pixel}
 use Rattle.job.proofs.Uses.{ahead-part}
-use Rattle.job.proofs.Writes.{le-or-lt, some-mark, five-position, five-mark}
+use Rattle.job.proofs.Writes.{le-or-lt, some-checkpoint, five-position, five-checkpoint}
 use Rattle.job.proofs.Runs.{run-on, Under, under-pixel, under-write, uses}
 
 -- ---- what they leave
@@ -38,16 +38,16 @@ five-under k j w m b e =
     q = positionOf m + 1
 
 module _ (k : ℕ) (f : ℕ → Words) (from : ℕ) (m : Mem) where
-  pub pixels-mark : (n : ℕ) → length (pixelsOf k f from n m .mark) ≡ length (m .mark)
+  pub pixels-checkpoint : (n : ℕ) → length (pixelsOf k f from n m .checkpoint) ≡ length (m .checkpoint)
   unfolding pixelsOf
-  pixels-mark zero = refl
-  pixels-mark (suc n) = five-mark k (from + n) (f (from + n)) (pixelsOf k f from n m) ∙ pixels-mark n
+  pixels-checkpoint zero = refl
+  pixels-checkpoint (suc n) = five-checkpoint k (from + n) (f (from + n)) (pixelsOf k f from n m) ∙ pixels-checkpoint n
 
-  pub pixels-position : 0 < length (m .mark) → (n : ℕ) → positionOf (pixelsOf k f from n m) ≡ positionOf m + n
+  pub pixels-position : 0 < length (m .checkpoint) → (n : ℕ) → positionOf (pixelsOf k f from n m) ≡ positionOf m + n
   unfolding pixelsOf
   pixels-position h zero = sym (add-zero (positionOf m))
   pixels-position h (suc n) =
-      let l : 0 < length (pixelsOf k f from n m .mark) = rw (pixels-mark n) h in
+      let l : 0 < length (pixelsOf k f from n m .checkpoint) = rw (pixels-checkpoint n) h in
       five-position k (from + n) (f (from + n)) (pixelsOf k f from n m) l ∙ omega (arith, pixels-position h n)
 
   pub pixels-under : (n : ℕ) → Under k (pixelsOf k f from n m) m
@@ -55,10 +55,10 @@ module _ (k : ℕ) (f : ℕ → Words) (from : ℕ) (m : Mem) where
   pixels-under zero b e = refl
   pixels-under (suc n) b e = five-under k (from + n) (f (from + n)) (pixelsOf k f from n m) b e ∙ pixels-under n b e
 
-pub stretch-position : (k : ℕ) (f : ℕ → Words) (from n c : ℕ) (m : Mem) → c < 5 → 0 < length (m .mark)
+pub stretch-position : (k : ℕ) (f : ℕ → Words) (from n c : ℕ) (m : Mem) → c < 5 → 0 < length (m .checkpoint)
     → positionOf (stretchOf k f from n c m) ≡ positionOf m + n
 stretch-position k f from n c m h l =
-    ap (λ (x : List ℕ). getD x 0 0) (some-mark k (from + n) (f (from + n)) c (pixelsOf k f from n m) h) ∙ pixels-position k f from m l n
+    ap (λ (x : List ℕ). getD x 0 0) (some-checkpoint k (from + n) (f (from + n)) c (pixelsOf k f from n m) h) ∙ pixels-position k f from m l n
 
 -- ---- pixel after pixel
 
@@ -125,7 +125,7 @@ module _ (k : ℕ) (f : ℕ → Words) (from : ℕ) (m : Mem) where
 
 -- ---- they are the call's writes
 
-module _ (s : Setting) (k from : ℕ) (m : Mem) (f : ℕ → Words) (marked : 0 < length (m .mark)) (split : positionOf m ≡ k * area s + from) (right : (x : ℕ) → f x ≡ pixelOf s m k x) where
+module _ (s : Setting) (k from : ℕ) (m : Mem) (f : ℕ → Words) (marked : 0 < length (m .checkpoint)) (split : positionOf m ≡ k * area s + from) (right : (x : ℕ) → f x ≡ pixelOf s m k x) where
   -- the first c writes of the pixel after n whole ones
   next-run : (n c : ℕ) → from + n < area s → c ≤ 5
       → someOf k (from + n) (f (from + n)) c (pixelsOf k f from n m) ≡ runOf s (5 * positionOf (pixelsOf k f from n m)) c (pixelsOf k f from n m)
@@ -223,7 +223,7 @@ whole-still p channels dst source a b a′ b′ h e f = rw (e, f) h
 pub raised-on : (k : ℕ) (f : ℕ → Words) (from n all r : ℕ) (m₀ m : Mem) → Raised all m₀ → m ≡ pixelsOf k f from n m₀ → n ≤ all → r ≤ all - n → Raised r m
 raised-on k f from n all r m₀ m h e a l =
     record {
-      marked = rw (ap (λ (x : Mem). length (x .mark)) e ∙ pixels-mark k f from m₀ n) (h .marked);
+      marked = rw (ap (λ (x : Mem). length (x .checkpoint)) e ∙ pixels-checkpoint k f from m₀ n) (h .marked);
       bound = omega (arith, h .bound, ap positionOf e, pixels-position k f from m₀ (h .marked) n);
     }
 

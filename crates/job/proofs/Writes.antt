@@ -50,9 +50,9 @@ module _ (at word : ℕ) (m : Mem) where
   other-by true = refl
   other-by false = refl
 
-  mark-by : (b : Bool) → by b .mark ≡ m .mark
-  mark-by true = refl
-  mark-by false = refl
+  checkpoint-by : (b : Bool) → by b .checkpoint ≡ m .checkpoint
+  checkpoint-by true = refl
+  checkpoint-by false = refl
 
   length0-by : (b : Bool) → length (by b .work0) ≡ length (m .work0)
   length0-by true = length-set (m .work0) at word
@@ -72,8 +72,8 @@ module _ (at word : ℕ) (m : Mem) where
   pub word-other : (k : ℕ) → workOf k (put (wordWrite (suc k) at word) m) ≡ workOf k m
   word-other k = rw (parity k) (other-by (eqb (suc k % 2) 0))
 
-  pub word-mark : (k : ℕ) → put (wordWrite k at word) m .mark ≡ m .mark
-  word-mark k = mark-by (eqb (k % 2) 0)
+  pub word-checkpoint : (k : ℕ) → put (wordWrite k at word) m .checkpoint ≡ m .checkpoint
+  word-checkpoint k = checkpoint-by (eqb (k % 2) 0)
 
   pub word-length0 : (k : ℕ) → length (put (wordWrite k at word) m .work0) ≡ length (m .work0)
   word-length0 k = length0-by (eqb (k % 2) 0)
@@ -112,16 +112,16 @@ five-other k j w q (suc (suc (suc (suc (suc c))))) m = refl
 -- ---- the first of them
 
 -- those before the position's leave the checkpoint
-pub some-mark : (k j : ℕ) (w : Words) (c : ℕ) (m : Mem) → c < 5 → someOf k j w c m .mark ≡ m .mark
+pub some-checkpoint : (k j : ℕ) (w : Words) (c : ℕ) (m : Mem) → c < 5 → someOf k j w c m .checkpoint ≡ m .checkpoint
 unfolding stored
-some-mark k j w zero m h = refl
-some-mark k j w (suc zero) m h = word-mark (4 * j) (w .r) m k
-some-mark k j w (suc (suc zero)) m h = word-mark (4 * j + 1) (w .g) _ k ∙ word-mark (4 * j) (w .r) m k
-some-mark k j w (suc (suc (suc zero))) m h =
-    word-mark (4 * j + 2) (w .b) _ k ∙ word-mark (4 * j + 1) (w .g) _ k ∙ word-mark (4 * j) (w .r) m k
-some-mark k j w (suc (suc (suc (suc zero)))) m h =
-    word-mark (4 * j + 3) (w .a) _ k ∙ word-mark (4 * j + 2) (w .b) _ k ∙ word-mark (4 * j + 1) (w .g) _ k ∙ word-mark (4 * j) (w .r) m k
-some-mark k j w (suc (suc (suc (suc (suc c))))) m h = absurd (omega arith)
+some-checkpoint k j w zero m h = refl
+some-checkpoint k j w (suc zero) m h = word-checkpoint (4 * j) (w .r) m k
+some-checkpoint k j w (suc (suc zero)) m h = word-checkpoint (4 * j + 1) (w .g) _ k ∙ word-checkpoint (4 * j) (w .r) m k
+some-checkpoint k j w (suc (suc (suc zero))) m h =
+    word-checkpoint (4 * j + 2) (w .b) _ k ∙ word-checkpoint (4 * j + 1) (w .g) _ k ∙ word-checkpoint (4 * j) (w .r) m k
+some-checkpoint k j w (suc (suc (suc (suc zero)))) m h =
+    word-checkpoint (4 * j + 3) (w .a) _ k ∙ word-checkpoint (4 * j + 2) (w .b) _ k ∙ word-checkpoint (4 * j + 1) (w .g) _ k ∙ word-checkpoint (4 * j) (w .r) m k
+some-checkpoint k j w (suc (suc (suc (suc (suc c))))) m h = absurd (omega arith)
 
 -- one more of them
 pub some-next : (k j : ℕ) (w : Words) (c : ℕ) (m : Mem) → c < 5 → someOf k j w (suc c) m ≡ put (getD (fiveWrites k j w (positionOf m + 1)) c (Checkpoint 0)) (someOf k j w c m)
@@ -133,7 +133,7 @@ some-next k j w c m h =
 some-more : (k j : ℕ) (w : Words) (c : ℕ) (m₀ m m′ : Mem) → c < 5 → m ≡ someOf k j w c m₀ → m′ ≡ put (getD (fiveWrites k j w (positionOf m + 1)) c (Checkpoint 0)) m
     → m′ ≡ someOf k j w (c + 1) m₀
 some-more k j w c m₀ m m′ h e g =
-    let p : positionOf m ≡ positionOf m₀ = ap (λ (x : Mem). positionOf x) e ∙ ap (λ (l : List ℕ). getD l 0 0) (some-mark k j w c m₀ h) in
+    let p : positionOf m ≡ positionOf m₀ = ap (λ (x : Mem). positionOf x) e ∙ ap (λ (l : List ℕ). getD l 0 0) (some-checkpoint k j w c m₀ h) in
     g
     ∙ ap (λ (x : ℕ). put (getD (fiveWrites k j w (x + 1)) c (Checkpoint 0)) m) p
     ∙ ap (put (getD (fiveWrites k j w (positionOf m₀ + 1)) c (Checkpoint 0))) e
@@ -146,17 +146,17 @@ some-none k j w zero m e = refl
 some-none k j w (suc c) m e = absurd (omega arith)
 
 -- all five raise the position by one
-pub five-position : (k j : ℕ) (w : Words) (m : Mem) → 0 < length (m .mark) → positionOf (someOf k j w 5 m) ≡ positionOf m + 1
+pub five-position : (k j : ℕ) (w : Words) (m : Mem) → 0 < length (m .checkpoint) → positionOf (someOf k j w 5 m) ≡ positionOf m + 1
 five-position k j w m h =
     ap positionOf (some-next k j w 4 m (omega arith))
-    ∙ ap (λ (l : List ℕ). getD (set l 0 (positionOf m + 1)) 0 0) (some-mark k j w 4 m (omega arith))
-    ∙ getD-set-same (m .mark) 0 (positionOf m + 1) 0 h
+    ∙ ap (λ (l : List ℕ). getD (set l 0 (positionOf m + 1)) 0 0) (some-checkpoint k j w 4 m (omega arith))
+    ∙ getD-set-same (m .checkpoint) 0 (positionOf m + 1) 0 h
 
-pub five-mark : (k j : ℕ) (w : Words) (m : Mem) → length (someOf k j w 5 m .mark) ≡ length (m .mark)
-five-mark k j w m =
-    ap (λ (x : Mem). length (x .mark)) (some-next k j w 4 m (omega arith))
-    ∙ length-set (someOf k j w 4 m .mark) 0 (positionOf m + 1)
-    ∙ ap length (some-mark k j w 4 m (omega arith))
+pub five-checkpoint : (k j : ℕ) (w : Words) (m : Mem) → length (someOf k j w 5 m .checkpoint) ≡ length (m .checkpoint)
+five-checkpoint k j w m =
+    ap (λ (x : Mem). length (x .checkpoint)) (some-next k j w 4 m (omega arith))
+    ∙ length-set (someOf k j w 4 m .checkpoint) 0 (positionOf m + 1)
+    ∙ ap length (some-checkpoint k j w 4 m (omega arith))
 
 -- ---- one step of the code
 
@@ -177,10 +177,10 @@ pub record Begun (k j : ℕ) (w : Words) (c : ℕ) (m₀ m : Mem) : Type 0 where
   pub same : m ≡ someOf k j w c m₀
   pub length0 : length (m .work0) ≡ length (m₀ .work0)
   pub length1 : length (m .work1) ≡ length (m₀ .work1)
-  pub length-mark : length (m .mark) ≡ length (m₀ .mark)
+  pub length-checkpoint : length (m .checkpoint) ≡ length (m₀ .checkpoint)
 
 pub begun-none : (k j : ℕ) (w : Words) (m : Mem) → Begun k j w 0 m m
-begun-none k j w m = record { same = some-none k j w 0 m refl; length0 = refl; length1 = refl; length-mark = refl }
+begun-none k j w m = record { same = some-none k j w 0 m refl; length0 = refl; length1 = refl; length-checkpoint = refl }
 
 module _ {k j : ℕ} {w : Words} {c : ℕ} {m₀ m : Mem} (h : c < 5) (g : Begun k j w c m₀ m) where
   abbrev due-write : Write
@@ -199,18 +199,18 @@ module _ {k j : ℕ} {w : Words} {c : ℕ} {m₀ m : Mem} (h : c < 5) (g : Begun
     room = record {
       in0 = rw (g .length0) (r .in0);
       in1 = rw (g .length1) (r .in1);
-      marked = rw (g .length-mark) (r .marked);
-      bound = rw (ap positionOf (g .same) ∙ ap (λ (l : List ℕ). getD l 0 0) (some-mark k j w c m₀ h)) (r .bound);
+      marked = rw (g .length-checkpoint) (r .marked);
+      bound = rw (ap positionOf (g .same) ∙ ap (λ (l : List ℕ). getD l 0 0) (some-checkpoint k j w c m₀ h)) (r .bound);
     };
     next = ahead-part u c 1 (omega arith) _ one-more;
   }
 
   -- and has been made
-  pub begun-more : (m′ : Mem) → m′ ≡ put (getD (fiveWrites k j w (positionOf m + 1)) c (Checkpoint 0)) m → length (m′ .work0) ≡ length (m .work0) → length (m′ .work1) ≡ length (m .work1) → length (m′ .mark) ≡ length (m .mark)
+  pub begun-more : (m′ : Mem) → m′ ≡ put (getD (fiveWrites k j w (positionOf m + 1)) c (Checkpoint 0)) m → length (m′ .work0) ≡ length (m .work0) → length (m′ .work1) ≡ length (m .work1) → length (m′ .checkpoint) ≡ length (m .checkpoint)
       → Begun k j w (c + 1) m₀ m′
   begun-more m′ e a b d = record {
     same = some-more k j w c m₀ m m′ h (g .same) e;
     length0 = a ∙ g .length0;
     length1 = b ∙ g .length1;
-    length-mark = d ∙ g .length-mark;
+    length-checkpoint = d ∙ g .length-checkpoint;
   }

@@ -78,7 +78,7 @@ pub record Outcome : Type 0 where
   pub answer : Answer
 
 abbrev pub outcome : List ℕ → List ℕ → List ℕ → Answer → Outcome
-outcome work0 work1 mark r = record { mem = memOf work0 work1 mark; answer = r }
+outcome work0 work1 checkpoint r = record { mem = memOf work0 work1 checkpoint; answer = r }
 
 unfoldable pub acceptedOf : Inputs → (allowance : ℕ) → Mem → Outcome
 acceptedOf i allowance m =

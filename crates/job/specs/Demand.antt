@@ -9,7 +9,7 @@ use Rattle.layers.specs.Inputs.{Inputs}
 use Rattle.job.specs.Memory.{Mem, memOf, positionOf, workOf}
 use Rattle.job.specs.Job.{pixelCount, layerCount, endOf, callFault}
 use Rattle.job.specs.Call.{callOf}
-use Rattle.job.specs.Model.{pictureOf, Buffer, own0, own1, other, Marker, own, foreign, Loan, lent, Call, allowed, cut, refused, Seen, modelOf}
+use Rattle.job.specs.Model.{pictureOf, Buffer, own0, own1, other, CheckpointPlace, own, foreign, Loan, lent, Call, allowed, cut, refused, Seen, modelOf}
 
 -- ---- the program's calls
 
@@ -24,9 +24,9 @@ is1 own0 = false
 is1 own1 = true
 is1 (other xs) = false
 
-abbrev pub markReturned : Marker → List ℕ → List ℕ → List ℕ
-markReturned own after before = after
-markReturned (foreign xs) after before = before
+abbrev pub checkpointReturned : CheckpointPlace → List ℕ → List ℕ → List ℕ
+checkpointReturned own after before = after
+checkpointReturned (foreign xs) after before = before
 
 -- the job's memory once a call has left what it was lent as `after`
 abbrev pub returned : Loan → Mem → Mem → Mem
@@ -34,7 +34,7 @@ returned l m after =
     memOf
     (cond (is0 (l .place0)) (after .work0) (cond (is0 (l .place1)) (after .work1) (m .work0)))
     (cond (is1 (l .place0)) (after .work0) (cond (is1 (l .place1)) (after .work1) (m .work1)))
-    (markReturned (l .checkpoint) (after .mark) (m .mark))
+    (checkpointReturned (l .checkpoint) (after .checkpoint) (m .checkpoint))
 
 -- What a call of the program leaves and answers, by its contract. A call cut after so many writes is a call allowed so many.
 unfoldable pub programOf : Inputs → Mem → Call → Seen

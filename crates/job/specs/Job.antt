@@ -30,7 +30,7 @@ unfoldable pub memoryFault : (pixels end : ℕ) → Mem → ℕ
 memoryFault pixels end m =
     cond (eqb (length (m .work0)) (4 * pixels))
     (cond (eqb (length (m .work1)) (4 * pixels))
-    (cond (eqb (length (m .mark)) 1)
+    (cond (eqb (length (m .checkpoint)) 1)
     (cond (ltb end (positionOf m)) 10 0)
     10) 9) 9
 

@@ -12,26 +12,26 @@ use Rattle.job.specs.declared.Write.the-variants.{Work0, Work1, Checkpoi
 pub record Mem : Type 0 where
   pub work0 : List ℕ
   pub work1 : List ℕ
-  pub mark : List ℕ
+  pub checkpoint : List ℕ
 
 abbrev pub memOf : List ℕ → List ℕ → List ℕ → Mem
-memOf work0 work1 mark = record { work0 = work0; work1 = work1; mark = mark }
+memOf work0 work1 checkpoint = record { work0 = work0; work1 = work1; checkpoint = checkpoint }
 
 -- the job's position: the pixels that it has written, over all pictures
 abbrev pub positionOf : Mem → ℕ
-positionOf m = getD (m .mark) 0 0
+positionOf m = getD (m .checkpoint) 0 0
 
 -- the memory after one write
 abbrev pub put : Write → Mem → Mem
-put (Work0 at word) m = memOf (set (m .work0) at word) (m .work1) (m .mark)
-put (Work1 at word) m = memOf (m .work0) (set (m .work1) at word) (m .mark)
-put (Checkpoint position) m = memOf (m .work0) (m .work1) (set (m .mark) 0 position)
+put (Work0 at word) m = memOf (set (m .work0) at word) (m .work1) (m .checkpoint)
+put (Work1 at word) m = memOf (m .work0) (set (m .work1) at word) (m .checkpoint)
+put (Checkpoint position) m = memOf (m .work0) (m .work1) (set (m .checkpoint) 0 position)
 
 -- the number that a write names is there
 abbrev pub InRange : Mem → Write → Type 0
 InRange m (Work0 at word) = at < length (m .work0)
 InRange m (Work1 at word) = at < length (m .work1)
-InRange m (Checkpoint position) = 0 < length (m .mark)
+InRange m (Checkpoint position) = 0 < length (m .checkpoint)
 
 -- the memory after several writes, in their order
 unfoldable pub stored : List Write → Mem → Mem

@@ -52,15 +52,15 @@ pub data Buffer : Type 0 where
   other : List ℕ → Buffer
 
 -- and for a checkpoint
-pub data Marker : Type 0 where
-  own : Marker
-  foreign : List ℕ → Marker
+pub data CheckpointPlace : Type 0 where
+  own : CheckpointPlace
+  foreign : List ℕ → CheckpointPlace
 
 -- the three places of a call, in which it may be lent the job's own lists, also out of their places
 pub record Loan : Type 0 where
   pub place0 : Buffer
   pub place1 : Buffer
-  pub checkpoint : Marker
+  pub checkpoint : CheckpointPlace
 
 pub data Call : Type 0 where
   -- a call with the job's inputs, work buffers and checkpoint, allowed so many writes
@@ -75,13 +75,13 @@ lentBuffer own0 m = m .work0
 lentBuffer own1 m = m .work1
 lentBuffer (other xs) m = xs
 
-abbrev pub lentMarker : Marker → Mem → List ℕ
-lentMarker own m = m .mark
-lentMarker (foreign xs) m = xs
+abbrev pub lentCheckpoint : CheckpointPlace → Mem → List ℕ
+lentCheckpoint own m = m .checkpoint
+lentCheckpoint (foreign xs) m = xs
 
 -- the memory that a call finds
 abbrev pub lent : Loan → Mem → Mem
-lent l m = memOf (lentBuffer (l .place0) m) (lentBuffer (l .place1) m) (lentMarker (l .checkpoint) m)
+lent l m = memOf (lentBuffer (l .place0) m) (lentBuffer (l .place1) m) (lentCheckpoint (l .checkpoint) m)
 
 -- what is seen of a call: the job's memory after it, and its answer if it was not cut
 pub record Seen : Type 0 where

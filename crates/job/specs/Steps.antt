@@ -29,7 +29,7 @@ mostPosition = 4611686018427387904
 pub record Room (j : ℕ) (m : Mem) : Type 0 where
   pub in0 : 4 * j + 3 < length (m .work0)
   pub in1 : 4 * j + 3 < length (m .work1)
-  pub marked : 0 < length (m .mark)
+  pub marked : 0 < length (m .checkpoint)
   pub bound : positionOf m < mostPosition
 
 -- write c of the five is due: it is the next of a call
@@ -74,7 +74,7 @@ pub record Whole (p : Plan) (channels dst source work0 work1 : ℕ) : Type 0 whe
 
 -- the checkpoint is there, and n positions from it are in bounds
 pub record Raised (n : ℕ) (m : Mem) : Type 0 where
-  pub marked : 0 < length (m .mark)
+  pub marked : 0 < length (m .checkpoint)
   pub bound : positionOf m + n < mostPosition
 
 -- the layer of phase k (layer 0 for phase 0, which does not read it) can be decoded, and has no fault
@@ -92,7 +92,7 @@ pub record Sized (s : Setting) (m : Mem) : Type 0 where
   pub dst-length : length (s .dst) ≡ area s * s .channels
   pub work0-length : length (m .work0) ≡ area s * 4
   pub work1-length : length (m .work1) ≡ area s * 4
-  pub marked : 0 < length (m .mark)
+  pub marked : 0 < length (m .checkpoint)
 
 -- what a stretch of phase k asks: it lies in the picture, and the position is at its start
 pub record Stretch (s : Setting) (k from count rest : ℕ) (m : Mem) : Type 0 where

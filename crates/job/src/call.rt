@@ -14,9 +14,9 @@ use layers::cells::natural;
 use layers::check;
 
 // 9, WORK, or 10, MARK; 0 where there is neither.
-fn memory_fault(pixels: usize, end: usize, work0: &[u32], work1: &[u32], mark: &[u64]) -> u64
+fn memory_fault(pixels: usize, end: usize, work0: &[u32], work1: &[u32], checkpoint: &[u64]) -> u64
     requires { ⌜ 4 * pixels ≤ mostPosition ⌝ }
-    ensures { λ r. ⌜ r ≡ memoryFault pixels end (memOf (now (work0 .entry)) (now (work1 .entry)) (now (mark .entry))) ⌝ }
+    ensures { λ r. ⌜ r ≡ memoryFault pixels end (memOf (now (work0 .entry)) (now (work1 .entry)) (now (checkpoint .entry))) ⌝ }
 {
     if work0.len() != 4 * pixels {
         return 9;
@@ -24,10 +24,10 @@ fn memory_fault(pixels: usize, end: usize, work0: &[u32], work1: &[u32], mark: &
     if work1.len() != 4 * pixels {
         return 9;
     }
-    if mark.len() != 1 {
+    if checkpoint.len() != 1 {
         return 10;
     }
-    if end < mark[0] as usize {
+    if end < checkpoint[0] as usize {
         return 10;
     }
     0
@@ -45,11 +45,11 @@ fn fault(
     samples: &[u32],
     work0: &[u32],
     work1: &[u32],
-    mark: &[u64],
+    checkpoint: &[u64],
 ) -> Verdict
     ensures { λ r. ⌜
         r
-        ≡ callFault (inputsOf width height channels (now (dst .entry)) count (now (table .entry)) (now (args .entry)) (now (samples .entry))) (memOf (now (work0 .entry)) (now (work1 .entry)) (now (mark .entry)))
+        ≡ callFault (inputsOf width height channels (now (dst .entry)) count (now (table .entry)) (now (args .entry)) (now (samples .entry))) (memOf (now (work0 .entry)) (now (work1 .entry)) (now (checkpoint .entry)))
         ⌝ }
 {
     let v = check(width, height, channels, dst, count, table, args, samples);
@@ -59,7 +59,7 @@ fn fault(
     let pixels = natural(width) * natural(height);
     let end = (natural(count) + 1) * pixels;
     Verdict {
-        number: memory_fault(pixels, end, work0, work1, mark),
+        number: memory_fault(pixels, end, work0, work1, checkpoint),
         layer: 0,
     }
 }
@@ -77,18 +77,18 @@ fn accepted(
     allowance: u64,
     work0: &mut [u32],
     work1: &mut [u32],
-    mark: &mut [u64],
+    checkpoint: &mut [u64],
 ) -> Answer
-    requires { ⌜ callFault (inputsOf width height channels (now dst) count (now table) (now args) (now samples)) (memOf (now work0) (now work1) (now mark)) .number ≡ 0 ⌝ }
+    requires { ⌜ callFault (inputsOf width height channels (now dst) count (now table) (now args) (now samples)) (memOf (now work0) (now work1) (now checkpoint)) .number ≡ 0 ⌝ }
     ensures { λ r. ⌜
-        outcome (now (work0 .exit)) (now (work1 .exit)) (now (mark .exit)) r
-        ≡ acceptedOf (inputsOf width height channels (now (dst .entry)) count (now (table .entry)) (now (args .entry)) (now (samples .entry))) allowance (memOf (now (work0 .entry)) (now (work1 .entry)) (now (mark .entry)))
+        outcome (now (work0 .exit)) (now (work1 .exit)) (now (checkpoint .exit)) r
+        ≡ acceptedOf (inputsOf width height channels (now (dst .entry)) count (now (table .entry)) (now (args .entry)) (now (samples .entry))) allowance (memOf (now (work0 .entry)) (now (work1 .entry)) (now (checkpoint .entry)))
         ⌝ }
 {
     let w = natural(width);
     let h = natural(height);
     let end = (natural(count) + 1) * (w * h);
-    let start = mark[0] as usize;
+    let start = checkpoint[0] as usize;
     let left = 5 * (end - start);
     let made = least(allowance as usize, left);
     writes(
@@ -103,9 +103,9 @@ fn accepted(
         made,
         work0,
         work1,
-        mark,
+        checkpoint,
     );
-    let finished = mark[0] as usize == end;
+    let finished = checkpoint[0] as usize == end;
     Answer {
         number: 0,
         layer: 0,
@@ -127,11 +127,11 @@ pub fn run(
     allowance: u64,
     work0: &mut [u32],
     work1: &mut [u32],
-    mark: &mut [u64],
+    checkpoint: &mut [u64],
 ) -> Answer
     ensures { λ r. ⌜
-        outcome (now (work0 .exit)) (now (work1 .exit)) (now (mark .exit)) r
-        ≡ callOf (inputsOf width height channels (now (dst .entry)) count (now (table .entry)) (now (args .entry)) (now (samples .entry))) allowance (memOf (now (work0 .entry)) (now (work1 .entry)) (now (mark .entry)))
+        outcome (now (work0 .exit)) (now (work1 .exit)) (now (checkpoint .exit)) r
+        ≡ callOf (inputsOf width height channels (now (dst .entry)) count (now (table .entry)) (now (args .entry)) (now (samples .entry))) allowance (memOf (now (work0 .entry)) (now (work1 .entry)) (now (checkpoint .entry)))
         ⌝ }
 {
     let v = fault(
@@ -145,7 +145,7 @@ pub fn run(
         samples,
         work0,
         work1,
-        mark,
+        checkpoint,
     );
     if v.number != 0 {
         return Answer {
@@ -167,6 +167,6 @@ pub fn run(
         allowance,
         work0,
         work1,
-        mark,
+        checkpoint,
     )
 }

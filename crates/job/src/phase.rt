@@ -67,24 +67,24 @@ fn write_out(
     count: usize,
     work0: &mut [u32],
     work1: &mut [u32],
-    mark: &mut [u64],
+    checkpoint: &mut [u64],
 )
     requires { ⌜
         (4 * count ≤ length (now buf))
         × (4 * (from + count) ≤ length (now work0))
         × (4 * (from + count) ≤ length (now work1))
-        × (Raised count (memOf (now work0) (now work1) (now mark)))
-        × (StretchAhead k (λ j. rgbaAt (now buf) 4 (j - from)) from (5 * count) (memOf (now work0) (now work1) (now mark)))
+        × (Raised count (memOf (now work0) (now work1) (now checkpoint)))
+        × (StretchAhead k (λ j. rgbaAt (now buf) 4 (j - from)) from (5 * count) (memOf (now work0) (now work1) (now checkpoint)))
         ⌝ }
     ensures { λ _. ⌜
-        memOf (now (work0 .exit)) (now (work1 .exit)) (now (mark .exit))
-        ≡ pixelsOf k (λ j. rgbaAt (now (buf .entry)) 4 (j - from)) from count (memOf (now (work0 .entry)) (now (work1 .entry)) (now (mark .entry)))
+        memOf (now (work0 .exit)) (now (work1 .exit)) (now (checkpoint .exit))
+        ≡ pixelsOf k (λ j. rgbaAt (now (buf .entry)) 4 (j - from)) from count (memOf (now (work0 .entry)) (now (work1 .entry)) (now (checkpoint .entry)))
         ⌝ }
 {
     let mut i = 0;
     while i < count {
         let w = rgba_at(buf, 4, i);
-        five(work0, work1, mark, k, from + i, w);
+        five(work0, work1, checkpoint, k, from + i, w);
         i += 1;
     }
 }
@@ -100,17 +100,17 @@ fn spans(
     count: usize,
     work0: &mut [u32],
     work1: &mut [u32],
-    mark: &mut [u64],
+    checkpoint: &mut [u64],
 )
     requires { ⌜
         (Whole p channels (length (now dst)) (length (now source)) (length (now work0)) (length (now work1)))
         × (from + count ≤ p .dw * p .dh)
-        × (Raised count (memOf (now work0) (now work1) (now mark)))
-        × (StretchAhead k (phasePixel (now dst) channels p (now source) (workOf (k - 1) (memOf (now work0) (now work1) (now mark))) k) from (5 * count) (memOf (now work0) (now work1) (now mark)))
+        × (Raised count (memOf (now work0) (now work1) (now checkpoint)))
+        × (StretchAhead k (phasePixel (now dst) channels p (now source) (workOf (k - 1) (memOf (now work0) (now work1) (now checkpoint))) k) from (5 * count) (memOf (now work0) (now work1) (now checkpoint)))
         ⌝ }
     ensures { λ _. ⌜
-        memOf (now (work0 .exit)) (now (work1 .exit)) (now (mark .exit))
-        ≡ pixelsOf k (phasePixel (now (dst .entry)) channels p (now (source .entry)) (workOf (k - 1) (memOf (now (work0 .entry)) (now (work1 .entry)) (now (mark .entry)))) k) from count (memOf (now (work0 .entry)) (now (work1 .entry)) (now (mark .entry)))
+        memOf (now (work0 .exit)) (now (work1 .exit)) (now (checkpoint .exit))
+        ≡ pixelsOf k (phasePixel (now (dst .entry)) channels p (now (source .entry)) (workOf (k - 1) (memOf (now (work0 .entry)) (now (work1 .entry)) (now (checkpoint .entry)))) k) from count (memOf (now (work0 .entry)) (now (work1 .entry)) (now (checkpoint .entry)))
         ⌝ }
 {
     let mut buf = [0u32; 256];
@@ -129,7 +129,7 @@ fn spans(
             work1,
             &mut buf,
         );
-        write_out(&buf, k, from + i, m, work0, work1, mark);
+        write_out(&buf, k, from + i, m, work0, work1, checkpoint);
         i += m;
     }
 }
@@ -145,18 +145,18 @@ fn tail(
     count: usize,
     work0: &mut [u32],
     work1: &mut [u32],
-    mark: &mut [u64],
+    checkpoint: &mut [u64],
 )
     requires { ⌜
         (Whole p channels (length (now dst)) (length (now source)) (length (now work0)) (length (now work1)))
         × (count < 5)
         × (0 < count → j < p .dw * p .dh)
-        × (Raised 0 (memOf (now work0) (now work1) (now mark)))
-        × (PixelAhead k j (phasePixel (now dst) channels p (now source) (workOf (k - 1) (memOf (now work0) (now work1) (now mark))) k j) count (memOf (now work0) (now work1) (now mark)))
+        × (Raised 0 (memOf (now work0) (now work1) (now checkpoint)))
+        × (PixelAhead k j (phasePixel (now dst) channels p (now source) (workOf (k - 1) (memOf (now work0) (now work1) (now checkpoint))) k j) count (memOf (now work0) (now work1) (now checkpoint)))
         ⌝ }
     ensures { λ _. ⌜
-        memOf (now (work0 .exit)) (now (work1 .exit)) (now (mark .exit))
-        ≡ someOf k j (phasePixel (now (dst .entry)) channels p (now (source .entry)) (workOf (k - 1) (memOf (now (work0 .entry)) (now (work1 .entry)) (now (mark .entry)))) k j) count (memOf (now (work0 .entry)) (now (work1 .entry)) (now (mark .entry)))
+        memOf (now (work0 .exit)) (now (work1 .exit)) (now (checkpoint .exit))
+        ≡ someOf k j (phasePixel (now (dst .entry)) channels p (now (source .entry)) (workOf (k - 1) (memOf (now (work0 .entry)) (now (work1 .entry)) (now (checkpoint .entry)))) k j) count (memOf (now (work0 .entry)) (now (work1 .entry)) (now (checkpoint .entry)))
         ⌝ }
 {
     if count == 0 {
@@ -167,7 +167,7 @@ fn tail(
     let w = rgba_at(&one, 4, 0);
     let mut c = 0;
     while c < count {
-        step(work0, work1, mark, k, j, w, c);
+        step(work0, work1, checkpoint, k, j, w, c);
         c += 1;
     }
 }
@@ -184,22 +184,33 @@ pub fn phase(
     rest: usize,
     work0: &mut [u32],
     work1: &mut [u32],
-    mark: &mut [u64],
+    checkpoint: &mut [u64],
 )
     requires { ⌜
         (Whole p channels (length (now dst)) (length (now source)) (length (now work0)) (length (now work1)))
         × (from + count ≤ p .dw * p .dh)
         × (rest < 5)
         × (0 < rest → from + count < p .dw * p .dh)
-        × (Raised count (memOf (now work0) (now work1) (now mark)))
-        × (StretchAhead k (phasePixel (now dst) channels p (now source) (workOf (k - 1) (memOf (now work0) (now work1) (now mark))) k) from (5 * count + rest) (memOf (now work0) (now work1) (now mark)))
+        × (Raised count (memOf (now work0) (now work1) (now checkpoint)))
+        × (StretchAhead k (phasePixel (now dst) channels p (now source) (workOf (k - 1) (memOf (now work0) (now work1) (now checkpoint))) k) from (5 * count + rest) (memOf (now work0) (now work1) (now checkpoint)))
         ⌝ }
     ensures { λ _. ⌜
-        memOf (now (work0 .exit)) (now (work1 .exit)) (now (mark .exit))
-        ≡ stretchOf k (phasePixel (now (dst .entry)) channels p (now (source .entry)) (workOf (k - 1) (memOf (now (work0 .entry)) (now (work1 .entry)) (now (mark .entry)))) k) from count rest (memOf (now (work0 .entry)) (now (work1 .entry)) (now (mark .entry)))
+        memOf (now (work0 .exit)) (now (work1 .exit)) (now (checkpoint .exit))
+        ≡ stretchOf k (phasePixel (now (dst .entry)) channels p (now (source .entry)) (workOf (k - 1) (memOf (now (work0 .entry)) (now (work1 .entry)) (now (checkpoint .entry)))) k) from count rest (memOf (now (work0 .entry)) (now (work1 .entry)) (now (checkpoint .entry)))
         ⌝ }
 {
-    spans(dst, channels, p, source, k, from, count, work0, work1, mark);
+    spans(
+        dst,
+        channels,
+        p,
+        source,
+        k,
+        from,
+        count,
+        work0,
+        work1,
+        checkpoint,
+    );
     tail(
         dst,
         channels,
@@ -210,6 +221,6 @@ pub fn phase(
         rest,
         work0,
         work1,
-        mark,
+        checkpoint,
     );
 }

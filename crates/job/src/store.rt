@@ -12,9 +12,9 @@ use pictures::Words;
 
 // The one function that writes: it changes the one number that the write names. Each use of it is asked to be the next write of a call: before it
 // memory is what a call allowed so many leaves, and after it what the same call, allowed one more, leaves.
-pub fn store(work0: &mut [u32], work1: &mut [u32], mark: &mut [u64], w: Write)
-    requires { ⌜ (InRange (memOf (now work0) (now work1) (now mark)) w) × (Use (memOf (now work0) (now work1) (now mark)) w) ⌝ }
-    ensures { λ _. ⌜ memOf (now (work0 .exit)) (now (work1 .exit)) (now (mark .exit)) ≡ put w (memOf (now (work0 .entry)) (now (work1 .entry)) (now (mark .entry))) ⌝ }
+pub fn store(work0: &mut [u32], work1: &mut [u32], checkpoint: &mut [u64], w: Write)
+    requires { ⌜ (InRange (memOf (now work0) (now work1) (now checkpoint)) w) × (Use (memOf (now work0) (now work1) (now checkpoint)) w) ⌝ }
+    ensures { λ _. ⌜ memOf (now (work0 .exit)) (now (work1 .exit)) (now (checkpoint .exit)) ≡ put w (memOf (now (work0 .entry)) (now (work1 .entry)) (now (checkpoint .entry))) ⌝ }
 {
     match w {
         Write::Work0 { at, word } => {
@@ -24,7 +24,7 @@ pub fn store(work0: &mut [u32], work1: &mut [u32], mark: &mut [u64], w: Write)
             work1[at] = word;
         }
         Write::Checkpoint { position } => {
-            mark[0] = position;
+            checkpoint[0] = position;
         }
     }
 }
@@ -60,42 +60,54 @@ fn channel(w: Words, c: usize) -> u32
 pub fn step(
     work0: &mut [u32],
     work1: &mut [u32],
-    mark: &mut [u64],
+    checkpoint: &mut [u64],
     k: usize,
     j: usize,
     w: Words,
     c: usize,
 )
-    requires { ⌜ DueWrite k j w c (memOf (now work0) (now work1) (now mark)) ⌝ }
+    requires { ⌜ DueWrite k j w c (memOf (now work0) (now work1) (now checkpoint)) ⌝ }
     ensures { λ _. ⌜
-        memOf (now (work0 .exit)) (now (work1 .exit)) (now (mark .exit))
-        ≡ put (getD (fiveWrites k j w (positionOf (memOf (now (work0 .entry)) (now (work1 .entry)) (now (mark .entry))) + 1)) c (Checkpoint 0)) (memOf (now (work0 .entry)) (now (work1 .entry)) (now (mark .entry)))
+        memOf (now (work0 .exit)) (now (work1 .exit)) (now (checkpoint .exit))
+        ≡ put (getD (fiveWrites k j w (positionOf (memOf (now (work0 .entry)) (now (work1 .entry)) (now (checkpoint .entry))) + 1)) c (Checkpoint 0)) (memOf (now (work0 .entry)) (now (work1 .entry)) (now (checkpoint .entry)))
         ⌝ }
 {
     if c < 4 {
-        store(work0, work1, mark, word_write(k, 4 * j + c, channel(w, c)));
+        store(
+            work0,
+            work1,
+            checkpoint,
+            word_write(k, 4 * j + c, channel(w, c)),
+        );
         return;
     }
-    let position = mark[0] + 1;
-    store(work0, work1, mark, Write::Checkpoint { position });
+    let position = checkpoint[0] + 1;
+    store(work0, work1, checkpoint, Write::Checkpoint { position });
 }
 
 // Red, green and blue of pixel j of picture k.
-fn three(work0: &mut [u32], work1: &mut [u32], mark: &mut [u64], k: usize, j: usize, w: Words)
-    requires { ⌜ (Room j (memOf (now work0) (now work1) (now mark))) × (PixelAhead k j w 3 (memOf (now work0) (now work1) (now mark))) ⌝ }
-    ensures { λ _. ⌜ memOf (now (work0 .exit)) (now (work1 .exit)) (now (mark .exit)) ≡ someOf k j w 3 (memOf (now (work0 .entry)) (now (work1 .entry)) (now (mark .entry))) ⌝ }
+fn three(work0: &mut [u32], work1: &mut [u32], checkpoint: &mut [u64], k: usize, j: usize, w: Words)
+    requires { ⌜ (Room j (memOf (now work0) (now work1) (now checkpoint))) × (PixelAhead k j w 3 (memOf (now work0) (now work1) (now checkpoint))) ⌝ }
+    ensures { λ _. ⌜ memOf (now (work0 .exit)) (now (work1 .exit)) (now (checkpoint .exit)) ≡ someOf k j w 3 (memOf (now (work0 .entry)) (now (work1 .entry)) (now (checkpoint .entry))) ⌝ }
 {
-    step(work0, work1, mark, k, j, w, 0);
-    step(work0, work1, mark, k, j, w, 1);
-    step(work0, work1, mark, k, j, w, 2);
+    step(work0, work1, checkpoint, k, j, w, 0);
+    step(work0, work1, checkpoint, k, j, w, 1);
+    step(work0, work1, checkpoint, k, j, w, 2);
 }
 
 // The five writes of pixel j of picture k.
-pub fn five(work0: &mut [u32], work1: &mut [u32], mark: &mut [u64], k: usize, j: usize, w: Words)
-    requires { ⌜ (Room j (memOf (now work0) (now work1) (now mark))) × (PixelAhead k j w 5 (memOf (now work0) (now work1) (now mark))) ⌝ }
-    ensures { λ _. ⌜ memOf (now (work0 .exit)) (now (work1 .exit)) (now (mark .exit)) ≡ someOf k j w 5 (memOf (now (work0 .entry)) (now (work1 .entry)) (now (mark .entry))) ⌝ }
+pub fn five(
+    work0: &mut [u32],
+    work1: &mut [u32],
+    checkpoint: &mut [u64],
+    k: usize,
+    j: usize,
+    w: Words,
+)
+    requires { ⌜ (Room j (memOf (now work0) (now work1) (now checkpoint))) × (PixelAhead k j w 5 (memOf (now work0) (now work1) (now checkpoint))) ⌝ }
+    ensures { λ _. ⌜ memOf (now (work0 .exit)) (now (work1 .exit)) (now (checkpoint .exit)) ≡ someOf k j w 5 (memOf (now (work0 .entry)) (now (work1 .entry)) (now (checkpoint .entry))) ⌝ }
 {
-    three(work0, work1, mark, k, j, w);
-    step(work0, work1, mark, k, j, w, 3);
-    step(work0, work1, mark, k, j, w, 4);
+    three(work0, work1, checkpoint, k, j, w);
+    step(work0, work1, checkpoint, k, j, w, 3);
+    step(work0, work1, checkpoint, k, j, w, 4);
 }

@@ -53,13 +53,13 @@ fn stretch(
     rest: usize,
     work0: &mut [u32],
     work1: &mut [u32],
-    mark: &mut [u64],
+    checkpoint: &mut [u64],
 )
-    requires { ⌜ Stretch (setting w h channels (now dst) (now table) (now args) (now samples)) k from count rest (memOf (now work0) (now work1) (now mark)) ⌝ }
+    requires { ⌜ Stretch (setting w h channels (now dst) (now table) (now args) (now samples)) k from count rest (memOf (now work0) (now work1) (now checkpoint)) ⌝ }
     ensures { λ _. ⌜
-        (memOf (now (work0 .exit)) (now (work1 .exit)) (now (mark .exit))
-        ≡ runOf (setting w h channels (now (dst .entry)) (now (table .entry)) (now (args .entry)) (now (samples .entry))) (5 * positionOf (memOf (now (work0 .entry)) (now (work1 .entry)) (now (mark .entry)))) (5 * count + rest) (memOf (now (work0 .entry)) (now (work1 .entry)) (now (mark .entry))))
-        × (positionOf (memOf (now (work0 .exit)) (now (work1 .exit)) (now (mark .exit))) ≡ positionOf (memOf (now (work0 .entry)) (now (work1 .entry)) (now (mark .entry))) + count)
+        (memOf (now (work0 .exit)) (now (work1 .exit)) (now (checkpoint .exit))
+        ≡ runOf (setting w h channels (now (dst .entry)) (now (table .entry)) (now (args .entry)) (now (samples .entry))) (5 * positionOf (memOf (now (work0 .entry)) (now (work1 .entry)) (now (checkpoint .entry)))) (5 * count + rest) (memOf (now (work0 .entry)) (now (work1 .entry)) (now (checkpoint .entry))))
+        × (positionOf (memOf (now (work0 .exit)) (now (work1 .exit)) (now (checkpoint .exit))) ≡ positionOf (memOf (now (work0 .entry)) (now (work1 .entry)) (now (checkpoint .entry))) + count)
         ⌝ }
 {
     let l = Layer::at(table, args, layer_of(k));
@@ -76,7 +76,7 @@ fn stretch(
         rest,
         work0,
         work1,
-        mark,
+        checkpoint,
     );
 }
 
@@ -93,12 +93,12 @@ pub fn writes(
     made: usize,
     work0: &mut [u32],
     work1: &mut [u32],
-    mark: &mut [u64],
+    checkpoint: &mut [u64],
 )
-    requires { ⌜ Due (setting w h channels (now dst) (now table) (now args) (now samples)) start made (memOf (now work0) (now work1) (now mark)) ⌝ }
+    requires { ⌜ Due (setting w h channels (now dst) (now table) (now args) (now samples)) start made (memOf (now work0) (now work1) (now checkpoint)) ⌝ }
     ensures { λ _. ⌜
-        memOf (now (work0 .exit)) (now (work1 .exit)) (now (mark .exit))
-        ≡ runOf (setting w h channels (now (dst .entry)) (now (table .entry)) (now (args .entry)) (now (samples .entry))) (5 * start) made (memOf (now (work0 .entry)) (now (work1 .entry)) (now (mark .entry)))
+        memOf (now (work0 .exit)) (now (work1 .exit)) (now (checkpoint .exit))
+        ≡ runOf (setting w h channels (now (dst .entry)) (now (table .entry)) (now (args .entry)) (now (samples .entry))) (5 * start) made (memOf (now (work0 .entry)) (now (work1 .entry)) (now (checkpoint .entry)))
         ⌝ }
 {
     let n = w * h;
@@ -122,7 +122,7 @@ pub fn writes(
             m % 5,
             work0,
             work1,
-            mark,
+            checkpoint,
         );
         done += m;
     }

@@ -29,8 +29,8 @@ pub record HostOutcome : Type 0 where
   pub finished : ℕ
 
 abbrev pub hostOutcome : List ℕ → List ℕ → List ℕ → ℕ → ℕ → ℕ → ℕ → HostOutcome
-hostOutcome work0 work1 mark number layer stores finished = record {
-  mem = memOf work0 work1 mark;
+hostOutcome work0 work1 checkpoint number layer stores finished = record {
+  mem = memOf work0 work1 checkpoint;
   number = number;
   layer = layer;
   stores = stores;

@@ -74,7 +74,7 @@ pub extern "C" fn tray_narrow_bytes(wanted: i64, input: &[u32], output: &mut [u8
 }
 
 // A call of a job, allowed so many stores: the number of the first fault, or 0; its layer, the stores made and whether the job is finished (1 or 0) are
-// written to the last three. `work0`, `work1` and `mark` hold the job between calls. A refused call leaves them as they were.
+// written to the last three. `work0`, `work1` and `checkpoint` hold the job between calls. A refused call leaves them as they were.
 #[no_mangle]
 pub extern "C" fn tray_job(
     width: i64,
@@ -88,14 +88,14 @@ pub extern "C" fn tray_job(
     allowance: u64,
     work0: &mut [u32],
     work1: &mut [u32],
-    mark: &mut [u64],
+    checkpoint: &mut [u64],
     layer: &mut u64,
     stores: &mut u64,
     finished: &mut u64,
 ) -> u64
     ensures { λ r. ⌜
-        hostOutcome (now (work0 .exit)) (now (work1 .exit)) (now (mark .exit)) r (now (layer .exit)) (now (stores .exit)) (now (finished .exit))
-        ≡ jobOutcome (callOf (inputsOf width height channels (now (dst .entry)) layers (now (table .entry)) (now (args .entry)) (now (samples .entry))) allowance (memOf (now (work0 .entry)) (now (work1 .entry)) (now (mark .entry))))
+        hostOutcome (now (work0 .exit)) (now (work1 .exit)) (now (checkpoint .exit)) r (now (layer .exit)) (now (stores .exit)) (now (finished .exit))
+        ≡ jobOutcome (callOf (inputsOf width height channels (now (dst .entry)) layers (now (table .entry)) (now (args .entry)) (now (samples .entry))) allowance (memOf (now (work0 .entry)) (now (work1 .entry)) (now (checkpoint .entry))))
         ⌝ }
 {
     let a = job::call::run(
@@ -110,7 +110,7 @@ pub extern "C" fn tray_job(
         allowance,
         work0,
         work1,
-        mark,
+        checkpoint,
     );
     *layer = a.layer;
     *stores = a.stores;

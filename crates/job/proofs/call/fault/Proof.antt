@@ -36,7 +36,7 @@ check-requires : tie.Need-check-requires
 check-requires c κs = search needs
 
 returns : tie.Need-returns
-returns c = let s = start (c .before .before) in inputs-fault (inputs (c .before .before)) (memOf (s .args .work0 .now) (s .args .work1 .now) (s .args .mark .now)) (c .before .before .check .result) (found (c .before .before)) (c .if1 .taken)
+returns c = let s = start (c .before .before) in inputs-fault (inputs (c .before .before)) (memOf (s .args .work0 .now) (s .args .work1 .now) (s .args .checkpoint .now)) (c .before .before .check .result) (found (c .before .before)) (c .if1 .taken)
 
 natural-requires : tie.Need-natural-requires
 natural-requires c κs = search needs
@@ -62,7 +62,7 @@ memory-fault-requires c κs = rw (wide (c .before .before), high (c .before)) (o
 returns-2 : tie.Need-returns-2
 returns-2 c =
     let s = start (c .before .before .before .before .before .before) in
-    memory-fault (inputs (c .before .before .before .before .before .before)) (memOf (s .args .work0 .now) (s .args .work1 .now) (s .args .mark .now)) (c .before .before .before .before .before .before .check .result) (c .memory-fault .result) (found (c .before .before .before .before .before .before)) (c .before .before .before .before .if1 .left) (c .memory-fault .ensures ∙ rw (wide (c .before .before .before), high (c .before .before), many (c .before)))
+    memory-fault (inputs (c .before .before .before .before .before .before)) (memOf (s .args .work0 .now) (s .args .work1 .now) (s .args .checkpoint .now)) (c .before .before .before .before .before .before .check .result) (c .memory-fault .result) (found (c .before .before .before .before .before .before)) (c .before .before .before .before .if1 .left) (c .memory-fault .ensures ∙ rw (wide (c .before .before .before), high (c .before .before), many (c .before)))
 
 pub fault-spec : {M : Type 1} → statement M
 fault-spec =

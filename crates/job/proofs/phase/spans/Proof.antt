@@ -12,22 +12,22 @@ use Rattle.job.proofs.phase.spans.Statement.{statement}
 use Rattle.job.proofs.phase.spans.Tie as tie
 
 abbrev Inv-loop : tie.InvT-loop
-Inv-loop dst channels p source k from count work0₀ work1₀ mark₀ buf₀ i₀ work0 work1 mark buf i =
+Inv-loop dst channels p source k from count work0₀ work1₀ checkpoint₀ buf₀ i₀ work0 work1 checkpoint buf i =
     (i ≤ count)
-    × (memOf work0 work1 mark ≡ pixelsOf k (phasePixel dst channels p source (workOf (k - 1) (memOf work0₀ work1₀ mark₀)) k) from i (memOf work0₀ work1₀ mark₀))
+    × (memOf work0 work1 checkpoint ≡ pixelsOf k (phasePixel dst channels p source (workOf (k - 1) (memOf work0₀ work1₀ checkpoint₀)) k) from i (memOf work0₀ work1₀ checkpoint₀))
     × (length work0 ≡ length work0₀)
     × (length work1 ≡ length work1₀)
-    × (length mark ≡ length mark₀)
+    × (length checkpoint ≡ length checkpoint₀)
     × (length buf ≡ 256)
 
 abbrev μ-loop : tie.MeasureT-loop
-μ-loop dst channels p source k from count work0₀ work1₀ mark₀ buf₀ i₀ work0 work1 mark buf i = count - i
+μ-loop dst channels p source k from count work0₀ work1₀ checkpoint₀ buf₀ i₀ work0 work1 checkpoint buf i = count - i
 
 abbrev memory : tie.Start Inv-loop μ-loop → Mem
-memory s = memOf (s .args .work0 .now) (s .args .work1 .now) (s .args .mark .now)
+memory s = memOf (s .args .work0 .now) (s .args .work1 .now) (s .args .checkpoint .now)
 
 abbrev found : tie.At-loop Inv-loop μ-loop → Mem
-found c = memOf (c .loop .work0) (c .loop .work1) (c .loop .mark)
+found c = memOf (c .loop .work0) (c .loop .work1) (c .loop .checkpoint)
 
 -- pixel j of the phase
 abbrev pixel : tie.Start Inv-loop μ-loop → ℕ → Words

@@ -14,13 +14,13 @@ use Rattle.job.proofs.phase.tail.Statement.{statement}
 use Rattle.job.proofs.phase.tail.Tie as tie
 
 abbrev Inv-loop : tie.InvT-loop
-Inv-loop dst channels source k j count work0₀ work1₀ mark₀ w c₀ work0 work1 mark c = (c ≤ count) × Begun k j w c (memOf work0₀ work1₀ mark₀) (memOf work0 work1 mark)
+Inv-loop dst channels source k j count work0₀ work1₀ checkpoint₀ w c₀ work0 work1 checkpoint c = (c ≤ count) × Begun k j w c (memOf work0₀ work1₀ checkpoint₀) (memOf work0 work1 checkpoint)
 
 abbrev μ-loop : tie.MeasureT-loop
-μ-loop dst channels source k j count work0₀ work1₀ mark₀ w c₀ work0 work1 mark c = count - c
+μ-loop dst channels source k j count work0₀ work1₀ checkpoint₀ w c₀ work0 work1 checkpoint c = count - c
 
 abbrev memory : tie.Start Inv-loop μ-loop → Mem
-memory s = memOf (s .args .work0 .now) (s .args .work1 .now) (s .args .mark .now)
+memory s = memOf (s .args .work0 .now) (s .args .work1 .now) (s .args .checkpoint .now)
 
 -- pixel j of the phase
 abbrev pixel : tie.Start Inv-loop μ-loop → ℕ → Words
@@ -76,7 +76,7 @@ same-length-2 : tie.Need-same-length-2 Inv-loop μ-loop
 same-length-2 c = c .before .loop .inv .1 .length1
 
 same-length-3 : tie.Need-same-length-3 Inv-loop μ-loop
-same-length-3 c = c .before .loop .inv .1 .length-mark
+same-length-3 c = c .before .loop .inv .1 .length-checkpoint
 
 returns-2 : tie.Need-returns-2 Inv-loop μ-loop
 returns-2 c =

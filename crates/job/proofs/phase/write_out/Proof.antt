@@ -13,21 +13,21 @@ use Rattle.job.proofs.phase.write_out.Statement.{statement}
 use Rattle.job.proofs.phase.write_out.Tie as tie
 
 abbrev Inv-loop : tie.InvT-loop
-Inv-loop buf k from count work0₀ work1₀ mark₀ i₀ work0 work1 mark i =
+Inv-loop buf k from count work0₀ work1₀ checkpoint₀ i₀ work0 work1 checkpoint i =
     (i ≤ count)
-    × (memOf work0 work1 mark ≡ pixelsOf k (λ j. rgbaAt buf 4 (j - from)) from i (memOf work0₀ work1₀ mark₀))
+    × (memOf work0 work1 checkpoint ≡ pixelsOf k (λ j. rgbaAt buf 4 (j - from)) from i (memOf work0₀ work1₀ checkpoint₀))
     × (length work0 ≡ length work0₀)
     × (length work1 ≡ length work1₀)
-    × (length mark ≡ length mark₀)
+    × (length checkpoint ≡ length checkpoint₀)
 
 abbrev μ-loop : tie.MeasureT-loop
-μ-loop buf k from count work0₀ work1₀ mark₀ i₀ work0 work1 mark i = count - i
+μ-loop buf k from count work0₀ work1₀ checkpoint₀ i₀ work0 work1 checkpoint i = count - i
 
 abbrev memory : tie.Start Inv-loop μ-loop → Mem
-memory s = memOf (s .args .work0 .now) (s .args .work1 .now) (s .args .mark .now)
+memory s = memOf (s .args .work0 .now) (s .args .work1 .now) (s .args .checkpoint .now)
 
 abbrev found : tie.At-loop Inv-loop μ-loop → Mem
-found c = memOf (c .loop .work0) (c .loop .work1) (c .loop .mark)
+found c = memOf (c .loop .work0) (c .loop .work1) (c .loop .checkpoint)
 
 -- pixel j, from the buffer
 abbrev buffered : tie.Start Inv-loop μ-loop → ℕ → Words

@@ -8,11 +8,11 @@ use Rattle.job.proofs.store.five.Statement.{statement}
 use Rattle.job.proofs.store.five.Tie as tie
 
 abbrev memory : tie.Start → Mem
-memory s = memOf (s .args .work0 .now) (s .args .work1 .now) (s .args .mark .now)
+memory s = memOf (s .args .work0 .now) (s .args .work1 .now) (s .args .checkpoint .now)
 
 -- after the colours, after alpha and after the position
 colours : (c : tie.After-three) → let s = c .before .before .before .before .before .before .before in Begun (s .args .k) (s .args .j) (s .args .w) 3 (memory s) (memOf (c .three .last .0) (c .three .last .1 .0) (c .three .last .1 .1 .0))
-colours c = record { same = c .three .ensures; length0 = c .three .kept .0; length1 = c .three .kept .1 .0; length-mark = c .three .kept .1 .1 .0 }
+colours c = record { same = c .three .ensures; length0 = c .three .kept .0; length1 = c .three .kept .1 .0; length-checkpoint = c .three .kept .1 .1 .0 }
 
 alpha : (c : tie.After-step) → let s = c .before .before .before .before .before .before .before .before .before .before .before .before .before .before .before .before .before in Begun (s .args .k) (s .args .j) (s .args .w) 4 (memory s) (memOf (c .step .last .0) (c .step .last .1 .0) (c .step .last .1 .1 .0))
 alpha c = begun-more (omega arith) (colours (c .before .before .before .before .before .before .before .before .before .before)) _ (c .step .ensures) (c .step .kept .0) (c .step .kept .1 .0) (c .step .kept .1 .1 .0)

@@ -13,7 +13,7 @@ use Rattle.job.proofs.store.step.Statement.{statement}
 use Rattle.job.proofs.store.step.Tie as tie
 
 abbrev memory : tie.Start → Mem
-memory s = memOf (s .args .work0 .now) (s .args .work1 .now) (s .args .mark .now)
+memory s = memOf (s .args .work0 .now) (s .args .work1 .now) (s .args .checkpoint .now)
 
 -- the write is write c of the five
 written : (c : tie.After-word-write) → let s = c .before .before .before .before .before .before .before .before .before in c .word-write .result ≡ getD (fiveWrites (s .args .k) (s .args .j) (s .args .w) (positionOf (memory s) + 1)) (s .args .c) (Checkpoint 0)

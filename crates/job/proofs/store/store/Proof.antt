@@ -8,7 +8,7 @@ use Rattle.job.proofs.store.store.Statement.{statement}
 use Rattle.job.proofs.store.store.Tie as tie
 
 abbrev memory : tie.Start → Mem
-memory s = memOf (s .args .work0 .now) (s .args .work1 .now) (s .args .mark .now)
+memory s = memOf (s .args .work0 .now) (s .args .work1 .now) (s .args .checkpoint .now)
 
 -- what the write names is there, and is what is changed
 named : (s : tie.Start) (w : Write) → s .args .w ≡ w → InRange (memory s) w
@@ -38,8 +38,8 @@ slice-write-work1 c = named (c .before .before .before) _ (c .before .w2 .given 
 enum-known-w-3 : tie.Need-enum-known-w-3
 enum-known-w-3 c = search needs
 
-slice-write-mark : tie.Need-slice-write-mark
-slice-write-mark c = named (c .before .before .before) _ (c .before .w3 .given .1)
+slice-write-checkpoint : tie.Need-slice-write-checkpoint
+slice-write-checkpoint c = named (c .before .before .before) _ (c .before .w3 .given .1)
 
 same-length : tie.Need-same-length
 same-length c = search needs
@@ -70,7 +70,7 @@ store-spec =
     mul-work1
     slice-write-work1
     enum-known-w-3
-    slice-write-mark
+    slice-write-checkpoint
     same-length
     returns
     same-length-2

@@ -7,7 +7,7 @@ use Rattle.job.proofs.store.three.Statement.{statement}
 use Rattle.job.proofs.store.three.Tie as tie
 
 abbrev memory : tie.Start → Mem
-memory s = memOf (s .args .work0 .now) (s .args .work1 .now) (s .args .mark .now)
+memory s = memOf (s .args .work0 .now) (s .args .work1 .now) (s .args .checkpoint .now)
 
 -- after the first, the second and the third
 one : (c : tie.After-step) → let s = c .before .before .before .before .before .before .before in Begun (s .args .k) (s .args .j) (s .args .w) 1 (memory s) (memOf (c .step .last .0) (c .step .last .1 .0) (c .step .last .1 .1 .0))

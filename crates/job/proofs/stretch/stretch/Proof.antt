@@ -13,7 +13,7 @@ use Rattle.job.proofs.stretch.stretch.Statement.{statement}
 use Rattle.job.proofs.stretch.stretch.Tie as tie
 
 abbrev memory : tie.Start → Mem
-memory s = memOf (s .args .work0 .now) (s .args .work1 .now) (s .args .mark .now)
+memory s = memOf (s .args .work0 .now) (s .args .work1 .now) (s .args .checkpoint .now)
 
 -- what the writes are made from
 abbrev job : tie.Start → Setting

@@ -16,24 +16,24 @@ use Rattle.job.proofs.stretch.writes.Statement.{statement}
 use Rattle.job.proofs.stretch.writes.Tie as tie
 
 abbrev Inv-loop : tie.InvT-loop
-Inv-loop w h channels dst table args samples start made work0₀ work1₀ mark₀ n done₀ work0 work1 mark done =
+Inv-loop w h channels dst table args samples start made work0₀ work1₀ checkpoint₀ n done₀ work0 work1 checkpoint done =
     (done ≤ made)
     × (done < made → done % 5 ≡ 0)
-    × (memOf work0 work1 mark ≡ runOf (setting w h channels dst table args samples) (5 * start) done (memOf work0₀ work1₀ mark₀))
-    × Ahead (made - done) (λ t. runOf (setting w h channels dst table args samples) (5 * start) (done + t) (memOf work0₀ work1₀ mark₀))
-    × (positionOf (memOf work0 work1 mark) ≡ start + done / 5)
+    × (memOf work0 work1 checkpoint ≡ runOf (setting w h channels dst table args samples) (5 * start) done (memOf work0₀ work1₀ checkpoint₀))
+    × Ahead (made - done) (λ t. runOf (setting w h channels dst table args samples) (5 * start) (done + t) (memOf work0₀ work1₀ checkpoint₀))
+    × (positionOf (memOf work0 work1 checkpoint) ≡ start + done / 5)
     × (length work0 ≡ length work0₀)
     × (length work1 ≡ length work1₀)
-    × (length mark ≡ length mark₀)
+    × (length checkpoint ≡ length checkpoint₀)
 
 abbrev μ-loop : tie.MeasureT-loop
-μ-loop w h channels dst table args samples start made work0₀ work1₀ mark₀ n done₀ work0 work1 mark done = made - done
+μ-loop w h channels dst table args samples start made work0₀ work1₀ checkpoint₀ n done₀ work0 work1 checkpoint done = made - done
 
 abbrev memory : tie.Start Inv-loop μ-loop → Mem
-memory s = memOf (s .args .work0 .now) (s .args .work1 .now) (s .args .mark .now)
+memory s = memOf (s .args .work0 .now) (s .args .work1 .now) (s .args .checkpoint .now)
 
 abbrev found : tie.At-loop Inv-loop μ-loop → Mem
-found c = memOf (c .loop .work0) (c .loop .work1) (c .loop .mark)
+found c = memOf (c .loop .work0) (c .loop .work1) (c .loop .checkpoint)
 
 -- what the writes are made from
 abbrev job : tie.Start Inv-loop μ-loop → Setting
