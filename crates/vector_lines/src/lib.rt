@@ -10,7 +10,6 @@ pub use lists::first_longs;
 pub use lists::first_words;
 pub use lists::integers;
 pub use lists::longs;
-pub use lists::same_longs;
 pub use lists::same_words;
 pub use lists::words;
 pub use numbers::Integer;

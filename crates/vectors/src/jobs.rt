@@ -21,7 +21,6 @@ use vector_lines::first_integers;
 use vector_lines::first_longs;
 use vector_lines::first_words;
 use vector_lines::longs;
-use vector_lines::same_longs;
 use vector_lines::same_words;
 use vector_lines::signed;
 use vector_lines::words;
@@ -126,6 +125,10 @@ fn played(
     )
 }
 
+fn same_mark(a: &Mark, b: &Mark) -> bool {
+    a[0] == b[0] && a[1] == b[1] && a[2] == b[2] && a[3] == b[3]
+}
+
 // The place after the memory that must be left, which is kept for the next line.
 fn left(
     line: &[u8],
@@ -142,7 +145,7 @@ fn left(
     let n1 = counts[AT_WORK1];
     let n = counts[AT_MARK];
     let next = memory(line, at, due0, due1, due_mark, counts);
-    let same = same_words(due0, work0) && same_words(due1, work1) && same_longs(due_mark, mark);
+    let same = same_words(due0, work0) && same_words(due1, work1) && same_mark(due_mark, mark);
     let same_counts = counts[AT_WORK0] == n0 && counts[AT_WORK1] == n1 && counts[AT_MARK] == n;
     *work0 = *due0;
     *work1 = *due1;
