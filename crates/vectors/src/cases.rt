@@ -1,5 +1,6 @@
 // One function a kind of line: it reads what is asked, calls the library, and holds the answer against what the line says. Each answers the place
 // after the line's last token, or NOWHERE where the line is malformed or its answer is another.
+ghost use Prim.Native.Nat.{_≤_};
 use crate::rooms::AT_ARGS;
 use crate::rooms::AT_DST;
 use crate::rooms::AT_INPUT;
@@ -42,23 +43,44 @@ fn named(line: &[u8], at: usize, text: &[u8]) -> usize {
     expect(line, expect(line, at, answer), operator)
 }
 
-// N wanted INPUT length: number OUT.
-pub fn narrowing(line: &[u8], input: &mut Picture, counts: &mut Counts) -> usize {
+// What a line asks of a narrowing: `wanted INPUT length`, and the place after it, or NOWHERE where the output would be too long.
+struct NarrowCase {
+    wanted: i64,
+    length: usize,
+    next: usize,
+}
+
+fn narrow_case(line: &[u8], input: &mut Picture, counts: &mut Counts) -> NarrowCase
+    ensures { λ r. ⌜ r .length ≤ 256 ⌝ }
+{
     let wanted = signed(line, 1);
     let at = words(line, wanted.next, input, &mut counts[AT_INPUT]);
     let length = number(line, at);
+    let value = wanted.value;
     if length.value > OUT as u64 {
+        return NarrowCase {
+            wanted: value,
+            length: 0,
+            next: NOWHERE,
+        };
+    }
+    NarrowCase {
+        wanted: value,
+        length: length.value as usize,
+        next: length.next,
+    }
+}
+
+// N wanted INPUT length: number OUT.
+pub fn narrowing(line: &[u8], input: &mut Picture, counts: &mut Counts) -> usize {
+    let a = narrow_case(line, input, counts);
+    if a.next == NOWHERE {
         return NOWHERE;
     }
-    let n = length.value as usize;
     let mut out = [FILL; OUT];
-    narrowed(
-        line,
-        length.next,
-        wanted.value,
-        first_words(input, counts[AT_INPUT]),
-        &mut out[0..n],
-    )
+    let n = a.length;
+    let lent = first_words(input, counts[AT_INPUT]);
+    narrowed(line, a.next, a.wanted, lent, &mut out[0..n])
 }
 
 fn narrowed(line: &[u8], at: usize, wanted: i64, input: &[u32], out: &mut [u32]) -> usize {
@@ -80,21 +102,14 @@ fn written(line: &[u8], at: usize, out: &[u32]) -> usize {
 
 // B wanted INPUT length: number OUT.
 pub fn narrowing_bytes(line: &[u8], input: &mut Picture, counts: &mut Counts) -> usize {
-    let wanted = signed(line, 1);
-    let at = words(line, wanted.next, input, &mut counts[AT_INPUT]);
-    let length = number(line, at);
-    if length.value > OUT as u64 {
+    let a = narrow_case(line, input, counts);
+    if a.next == NOWHERE {
         return NOWHERE;
     }
-    let n = length.value as usize;
     let mut out = [FILL_BYTE; OUT];
-    narrowed_bytes(
-        line,
-        length.next,
-        wanted.value,
-        first_words(input, counts[AT_INPUT]),
-        &mut out[0..n],
-    )
+    let n = a.length;
+    let lent = first_words(input, counts[AT_INPUT]);
+    narrowed_bytes(line, a.next, a.wanted, lent, &mut out[0..n])
 }
 
 fn narrowed_bytes(line: &[u8], at: usize, wanted: i64, input: &[u32], out: &mut [u8]) -> usize {
