@@ -1,5 +1,4 @@
--- What holds in the middle of a call: the writes ahead are the next of that call. Document 01's "cut after any number of stores" is tied to the
--- code here: `store` asks `Use` of every caller. Definitions only.
+-- What holds in the middle of a call (document 01: "cut after any number of stores"): the writes ahead are the next of that call. Definitions only.
 use mathlib.Core.Path.{_≡_}
 use mathlib.Core.List.{[], _∷_}
 use Prim.Native.Nat.{ℕ, _+_, _-_, _*_, _≤_}
@@ -20,6 +19,6 @@ pub record Ahead (n : ℕ) (after : ℕ → Mem) : Type 0 where
   pub left : made + n ≤ 5 * (endOf inputs - positionOf found)
   pub each : (c : ℕ) → c ≤ n → after c ≡ callOf inputs (made + c) found .mem
 
--- one use of `store`: memory before it is what a call allowed `made` leaves, and after it what the same call, allowed one more, leaves
+-- one write: memory before it is what a call allowed `made` leaves, and after it what the same call, allowed one more, leaves
 abbrev pub Use : Mem → Write → Type 0
 Use m w = Ahead 1 (λ c. stored (take c (w ∷ [])) m)
