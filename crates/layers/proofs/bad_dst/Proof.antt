@@ -16,9 +16,6 @@ area c =
     let s = c .before .before .before in
     area-at (c .area .ensures) (toZ-ofZ (s .fits .width)) (toZ-ofZ (s .fits .height)) (toZ-ofZ (s .fits .channels))
 
-bad-shape-requires : tie.Need-bad-shape-requires
-bad-shape-requires c κs = search needs
-
 returns : tie.Need-returns
 unfolding badDst
 returns c = rw (← shape (c .before), c .if1 .taken)
@@ -31,4 +28,4 @@ unfolding badDst
 returns-2 c = rw (← shape (c .before .before), c .before .if1 .left, ← area c)
 
 pub bad-dst-spec : {M : Type 1} → statement M
-bad-dst-spec = tie.close (tie.spec bad-shape-requires returns area-requires returns-2)
+bad-dst-spec = tie.close (tie.spec (λ c κs. search needs) returns area-requires returns-2)

@@ -22,15 +22,9 @@ in-range c = sym (range (c .before)) ∙ c .if1 .left
 number : (c : tie.After-natural) → c .natural .result ≡ natOf (c .before .before .before .args .count)
 number c = rw (toZ-ofZ (c .before .before .before .fits .count)) at (c .natural .ensures)
 
-outside-requires : tie.Need-outside-requires
-outside-requires c κs = search needs
-
 returns : tie.Need-returns
 unfolding badStack
 returns c = rw (← range (c .before), c .if1 .taken)
-
-natural-requires : tie.Need-natural-requires
-natural-requires c κs = search needs
 
 mul-if2 : tie.Need-mul-if2
 mul-if2 c = record { fits = omega (arith, number c, ranged _ _ _ (in-range (c .before)) .most) }
@@ -49,4 +43,4 @@ returns-3 c = rw (in-range (c .before .before), ← number (c .before), eq-eqb _
 pub bad-stack-spec : {M : Type 1} → statement M
 bad-stack-spec =
     tie.close
-    (tie.spec outside-requires returns natural-requires mul-if2 returns-2 mul-result returns-3)
+    (tie.spec (λ c κs. search needs) returns (λ c κs. search needs) mul-if2 returns-2 mul-result returns-3)

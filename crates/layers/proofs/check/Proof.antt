@@ -24,22 +24,13 @@ dst c =
 number : (c : tie.After-natural) → c .natural .result ≡ natOf (start (c .before .before .before .before) .args .count)
 number c = rw (toZ-ofZ (start (c .before .before .before .before) .fits .count)) at (c .natural .ensures)
 
-bad-stack-requires : tie.Need-bad-stack-requires
-bad-stack-requires c κs = search needs
-
 returns : tie.Need-returns
 unfolding jobFault
 returns c = rw (← stack (c .before), c .if1 .taken)
 
-bad-dst-requires : tie.Need-bad-dst-requires
-bad-dst-requires c κs = search needs
-
 returns-2 : tie.Need-returns-2
 unfolding jobFault
 returns-2 c = rw (← stack (c .before .before .before), c .before .before .if1 .left, ← dst (c .before), c .if2 .taken)
-
-natural-requires : tie.Need-natural-requires
-natural-requires c κs = search needs
 
 rows-fault-requires : tie.Need-rows-fault-requires
 rows-fault-requires c κs =
@@ -58,10 +49,10 @@ pub check-spec : {M : Type 1} → statement M
 check-spec =
     tie.close
     (tie.spec
-    bad-stack-requires
+    (λ c κs. search needs)
     returns
-    bad-dst-requires
+    (λ c κs. search needs)
     returns-2
-    natural-requires
+    (λ c κs. search needs)
     rows-fault-requires
     returns-3)

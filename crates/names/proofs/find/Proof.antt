@@ -26,9 +26,6 @@ loop-holds c = (omega arith, omega arith, refl)
 shared-slice-read-wide : tie.Need-shared-slice-read-wide Inv-loop μ-loop
 shared-slice-read-wide c = omega arith
 
-wide-requires : tie.Need-wide-requires Inv-loop μ-loop
-wide-requires c κs = search needs
-
 -- the k-th name lies within the bytes
 fits : (c : tie.After-wide Inv-loop μ-loop)
     → c .before .before .before .loop .at + c .wide .result + total (drop (c .before .before .before .loop .k + 1) (c .before .before .before .before .before .before .before .args .lengths .now)) ≤ length (c .before .before .before .before .before .before .before .args .names .now)
@@ -47,9 +44,6 @@ part-reads-as-start c = omega arith
 
 part-reads-as-end : tie.Need-part-reads-as-end Inv-loop μ-loop
 part-reads-as-end c = omega (arith, fits c)
-
-reads-as-requires : tie.Need-reads-as-requires Inv-loop μ-loop
-reads-as-requires c κs = search needs
 
 returns : tie.Need-returns Inv-loop μ-loop
 returns c =
@@ -92,12 +86,12 @@ find-spec =
     μ-loop
     loop-holds
     shared-slice-read-wide
-    wide-requires
+    (λ c κs. search needs)
     add-end
     sub-reads-as
     part-reads-as-start
     part-reads-as-end
-    reads-as-requires
+    (λ c κs. search needs)
     returns
     add-k
     loop-less

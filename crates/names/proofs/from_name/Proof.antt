@@ -22,23 +22,11 @@ known : (c : tie.After-find) → atPlace (c .find .result) ≡ fromName (start c
 unfolding fromName
 known c = ap atPlace (answered c) ∙ place-known (keyOf (start c .args .s .now))
 
-find-requires : tie.Need-find-requires
-find-requires c κs = search needs
-
-enum-known-k : tie.Need-enum-known-k
-enum-known-k c = search needs
-
 element-copy-out-wide : tie.Need-element-copy-out-wide
 unfolding entries
 element-copy-out-wide c =
     let a = c .before .before .before in
     place-below (keyOf (start a .args .s .now)) (words entries) 0 _ (sym (answered a) ∙ c .before .k .given .1)
-
-wide-requires : tie.Need-wide-requires
-wide-requires c κs = search needs
-
-enum-told : tie.Need-enum-told
-enum-told c = search needs
 
 returns : tie.Need-returns
 unfolding entries numbers
@@ -53,10 +41,10 @@ pub from-name-spec : {M : Type 1} → statement M
 from-name-spec =
     tie.close
     (tie.spec
-    find-requires
-    enum-known-k
+    (λ c κs. search needs)
+    (λ c. search needs)
     element-copy-out-wide
-    wide-requires
-    enum-told
+    (λ c κs. search needs)
+    (λ c. search needs)
     returns
     returns-2)

@@ -22,17 +22,11 @@ loop-holds c = (omega arith, omega arith, refl)
 shared-slice-read-b : tie.Need-shared-slice-read-b Inv-loop μ-loop
 shared-slice-read-b c = omega arith
 
-is-kept-requires : tie.Need-is-kept-requires Inv-loop μ-loop
-is-kept-requires c κs = search needs
-
 returns : tie.Need-returns Inv-loop μ-loop
 returns c =
     let a = c .before .before in
     let l = a .before .before .before in
     sym (l .loop .inv .2 ∙ word-ended _ _ (l .loop .i) (l .loop .j) (a .before .before .loop-test .taken) (sym (a .is-kept .ensures) ∙ c .before .if1 .taken) (c .if2 .taken))
-
-lowered-requires : tie.Need-lowered-requires Inv-loop μ-loop
-lowered-requires c κs = search needs
 
 shared-slice-read-if3 : tie.Need-shared-slice-read-if3 Inv-loop μ-loop
 shared-slice-read-if3 c = omega arith
@@ -89,9 +83,9 @@ reads-as-spec =
     μ-loop
     loop-holds
     shared-slice-read-b
-    is-kept-requires
+    (λ c κs. search needs)
     returns
-    lowered-requires
+    (λ c κs. search needs)
     shared-slice-read-if3
     returns-2
     add-j

@@ -18,9 +18,6 @@ bad c = c .bad-channels .ensures ∙ ap badChannels (toZ-ofZ (c .before .fits .w
 number : (c : tie.After-natural) → c .natural .result ≡ natOf (c .before .before .before .before .args .wanted)
 number c = c .natural .ensures ∙ ap natOf (toZ-ofZ (c .before .before .before .before .fits .wanted))
 
-bad-channels-requires : tie.Need-bad-channels-requires
-bad-channels-requires c κs = search needs
-
 returns : tie.Need-returns
 unfolding acceptedOf narrowFault
 returns c = rw (← bad (c .before), c .if1 .taken)
@@ -28,9 +25,6 @@ returns c = rw (← bad (c .before), c .if1 .taken)
 returns-2 : tie.Need-returns-2
 unfolding acceptedOf narrowFault
 returns-2 c = rw (← bad (c .before .before), c .before .if1 .left, ne-eqb _ _ (c .if2 .taken))
-
-natural-requires : tie.Need-natural-requires
-natural-requires c κs = search needs
 
 mul-if3 : tie.Need-mul-if3
 mul-if3 c =
@@ -55,4 +49,4 @@ returns-4 c =
 
 pub accepted-spec : {M : Type 1} → statement M
 accepted-spec =
-    tie.close (tie.spec bad-channels-requires returns returns-2 natural-requires mul-if3 returns-3 returns-4)
+    tie.close (tie.spec (λ c κs. search needs) returns returns-2 (λ c κs. search needs) mul-if3 returns-3 returns-4)

@@ -21,9 +21,6 @@ Inv-loop wanted input output₀ channels i₀ output i = Filling step (toZ w64 w
 abbrev μ-loop : tie.MeasureT-loop
 μ-loop wanted input output₀ channels i₀ output i = length output₀ - i
 
-accepted-requires : tie.Need-accepted-requires Inv-loop μ-loop
-accepted-requires c κs = search needs
-
 returns : tie.Need-returns Inv-loop μ-loop
 returns c =
     let s = c .before .before .before .before in
@@ -34,15 +31,6 @@ loop-holds c = none-written _ _ _ _ (c .before .accepted .ensures) step (c .if1 
 
 narrowed-at-requires : tie.Need-narrowed-at-requires Inv-loop μ-loop
 narrowed-at-requires c κs = word-there step (c .before .loop .inv) (c .loop-test .taken)
-
-mul-output : tie.Need-mul-output Inv-loop μ-loop
-mul-output c = search needs
-
-slice-write-output : tie.Need-slice-write-output Inv-loop μ-loop
-slice-write-output c = search needs
-
-add-i : tie.Need-add-i Inv-loop μ-loop
-add-i c = search needs
 
 loop-less : tie.Need-loop-less Inv-loop μ-loop
 loop-less c = omega (arith, c .before .before .loop .inv .same)
@@ -64,13 +52,13 @@ narrow-spec =
     (tie.spec
     Inv-loop
     μ-loop
-    accepted-requires
+    (λ c κs. search needs)
     returns
     loop-holds
     narrowed-at-requires
-    mul-output
-    slice-write-output
-    add-i
+    (λ c. search needs)
+    (λ c. search needs)
+    (λ c. search needs)
     loop-less
     loop-again
     same-length

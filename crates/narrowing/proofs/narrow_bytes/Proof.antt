@@ -22,9 +22,6 @@ Inv-loop wanted input output₀ channels i₀ output i = Filling step (toZ w64 w
 abbrev μ-loop : tie.MeasureT-loop
 μ-loop wanted input output₀ channels i₀ output i = length output₀ - i
 
-accepted-requires : tie.Need-accepted-requires Inv-loop μ-loop
-accepted-requires c κs = search needs
-
 returns : tie.Need-returns Inv-loop μ-loop
 returns c =
     let s = c .before .before .before .before in
@@ -35,18 +32,6 @@ loop-holds c = none-written _ _ _ _ (c .before .accepted .ensures) step (c .if1 
 
 narrowed-at-requires : tie.Need-narrowed-at-requires Inv-loop μ-loop
 narrowed-at-requires c κs = word-there step (c .before .loop .inv) (c .loop-test .taken)
-
-value-requires : tie.Need-value-requires Inv-loop μ-loop
-value-requires c κs = search needs
-
-byte-requires : tie.Need-byte-requires Inv-loop μ-loop
-byte-requires c κs = search needs
-
-slice-write-output : tie.Need-slice-write-output Inv-loop μ-loop
-slice-write-output c = search needs
-
-add-i : tie.Need-add-i Inv-loop μ-loop
-add-i c = search needs
 
 loop-less : tie.Need-loop-less Inv-loop μ-loop
 loop-less c = omega (arith, c .before .before .before .before .loop .inv .same)
@@ -70,14 +55,14 @@ narrow-bytes-spec =
     (tie.spec
     Inv-loop
     μ-loop
-    accepted-requires
+    (λ c κs. search needs)
     returns
     loop-holds
     narrowed-at-requires
-    value-requires
-    byte-requires
-    slice-write-output
-    add-i
+    (λ c κs. search needs)
+    (λ c κs. search needs)
+    (λ c. search needs)
+    (λ c. search needs)
     loop-less
     loop-again
     same-length

@@ -26,15 +26,6 @@ four c = rw (are-four c) at (c .before .before .before .pre .1)
 rgba-at-requires : tie.Need-rgba-at-requires
 rgba-at-requires c κs = (omega arith, omega arith, omega (arith, one c))
 
-values-requires : tie.Need-values-requires
-values-requires c κs = search needs
-
-luma-requires : tie.Need-luma-requires
-luma-requires c κs = search needs
-
-word-requires : tie.Need-word-requires
-word-requires c κs = search needs
-
 returns : tie.Need-returns
 returns c =
     let t = c .before .before .before .before in
@@ -70,9 +61,9 @@ narrowed-at-spec =
     tie.close
     (tie.spec
     rgba-at-requires
-    values-requires
-    luma-requires
-    word-requires
+    (λ c κs. search needs)
+    (λ c κs. search needs)
+    (λ c κs. search needs)
     returns
     mul-kept
     add-kept

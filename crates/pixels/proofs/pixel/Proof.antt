@@ -7,13 +7,10 @@ use Rattle.pixels.specs.Pixel.{pixelOf}
 use Rattle.pixels.proofs.pixel.Statement.{statement}
 use Rattle.pixels.proofs.pixel.Tie as tie
 
-paint-requires : tie.Need-paint-requires
-paint-requires c κs = search needs
-
 returns : tie.Need-returns
 returns c =
     let a = c .before .before .args in
     c .before .paint .ensures .1 ∙ ap (λ f. f (a .p) (a .s) (a .d)) (at-place (λ p s d. d) pixelOf operators (c .before .paint .result .0) (a .op) (c .before .paint .ensures .0))
 
 pub pixel-spec : {M : Type 1} → statement M
-pixel-spec = tie.close (tie.spec paint-requires returns)
+pixel-spec = tie.close (tie.spec (λ c κs. search needs) returns)

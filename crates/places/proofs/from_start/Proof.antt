@@ -8,9 +8,6 @@ use Rattle.places.proofs.Signed.{sfits, back, mag-sub}
 use Rattle.places.proofs.from_start.Statement.{statement}
 use Rattle.places.proofs.from_start.Tie as tie
 
-cast-result : tie.Need-cast-result
-cast-result c = search needs
-
 sub-result : tie.Need-sub-result
 sub-result c =
     rw (toZ-pos w64 {n = c .args .x} (omega arith), toZ-ofZ (c .fits .start))
@@ -22,4 +19,4 @@ returns c =
     (back (omega (arith, mag-sub (pos (c .args .x)) (c .args .start))))
 
 pub from-start-spec : {M : Type 1} → statement M
-from-start-spec = tie.close (tie.spec cast-result sub-result returns)
+from-start-spec = tie.close (tie.spec (λ c. search needs) sub-result returns)

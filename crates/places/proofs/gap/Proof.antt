@@ -8,12 +8,6 @@ use Rattle.places.proofs.Signed.{sfits, back, mag-sub}
 use Rattle.places.proofs.gap.Statement.{statement}
 use Rattle.places.proofs.gap.Tie as tie
 
-cast-result : tie.Need-cast-result
-cast-result c = search needs
-
-cast-result-2 : tie.Need-cast-result-2
-cast-result-2 c = search needs
-
 sub-result : tie.Need-sub-result
 sub-result c =
     rw (toZ-pos w64 {n = c .args .dst} (omega arith), toZ-pos w64 {n = c .args .src} (omega arith))
@@ -25,4 +19,4 @@ returns c =
     (back (omega (arith, mag-sub (pos (c .args .dst)) (pos (c .args .src)))))
 
 pub gap-spec : {M : Type 1} → statement M
-gap-spec = tie.close (tie.spec cast-result cast-result-2 sub-result returns)
+gap-spec = tie.close (tie.spec (λ c. search needs) (λ c. search needs) sub-result returns)

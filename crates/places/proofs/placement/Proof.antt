@@ -5,18 +5,6 @@ use Rattle.places.specs.Placement.{placementOf}
 use Rattle.places.proofs.placement.Statement.{statement}
 use Rattle.places.proofs.placement.Tie as tie
 
-across-requires : tie.Need-across-requires
-across-requires c κs = search needs
-
-start-requires : tie.Need-start-requires
-start-requires c κs = search needs
-
-downward-requires : tie.Need-downward-requires
-downward-requires c κs = search needs
-
-start-requires-2 : tie.Need-start-requires-2
-start-requires-2 c κs = search needs
-
 returns : tie.Need-returns
 unfolding placementOf
 returns c =
@@ -36,4 +24,4 @@ returns c =
 
 pub placement-spec : {M : Type 1} → statement M
 placement-spec =
-    tie.close (tie.spec across-requires start-requires downward-requires start-requires-2 returns)
+    tie.close (tie.spec (λ c κs. search needs) (λ c κs. search needs) (λ c κs. search needs) (λ c κs. search needs) returns)

@@ -28,12 +28,6 @@ sub-n c = rw (toZ-ofZ (c .before .fits .z), minus-one (below c)) (sfits (c .befo
 cast-n : tie.Need-cast-n
 cast-n c = rw (value c) (tt, record { fits = omega (arith, c .before .fits .z .sfits) })
 
-sub-result : tie.Need-sub-result
-sub-result c = search needs
-
-rem-result : tie.Need-rem-result
-rem-result c = search needs
-
 sub-result-2 : tie.Need-sub-result-2
 sub-result-2 c = rw (value c) (omega (arith, mod-lt (mag (c .before .args .z)) {m = c .before .args .m} (c .before .pre)))
 
@@ -42,9 +36,6 @@ returns c = rw (value c) (sym (ap (λ (z : ℤ). remEuclid z (c .before .args .m
 
 cast-result : tie.Need-cast-result
 cast-result c = casts (c .before .fits .z) (c .if1 .left)
-
-rem-result-2 : tie.Need-rem-result-2
-rem-result-2 c = search needs
 
 returns-2 : tie.Need-returns-2
 returns-2 c =
@@ -57,10 +48,10 @@ rem-euclid-spec =
     (tie.spec
     sub-n
     cast-n
-    sub-result
-    rem-result
+    (λ c. search needs)
+    (λ c. search needs)
     sub-result-2
     returns
     cast-result
-    rem-result-2
+    (λ c. search needs)
     returns-2)

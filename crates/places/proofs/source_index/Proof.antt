@@ -29,15 +29,6 @@ row c =
     spot-as (s .args .sh) (s .args .y) (c .spot-at2 .ensures) (c .before .before .before .before .repeats .ensures)
     (back {z = s .args .corner .y} (omega (arith, s .pre .corner-y)))
 
-repeats-requires : tie.Need-repeats-requires
-repeats-requires c κs = search needs
-
-spot-at-requires : tie.Need-spot-at-requires
-spot-at-requires c κs = search needs
-
-spot-at-requires-2 : tie.Need-spot-at-requires-2
-spot-at-requires-2 c κs = search needs
-
 index-requires : tie.Need-index-requires
 index-requires c κs =
     let s = start c in (
@@ -53,4 +44,4 @@ returns c = rw (← column (c .before), ← row (c .before)) (c .index .ensures)
 pub source-index-spec : {M : Type 1} → statement M
 source-index-spec =
     tie.close
-    (tie.spec repeats-requires spot-at-requires spot-at-requires-2 index-requires returns)
+    (tie.spec (λ c κs. search needs) (λ c κs. search needs) (λ c κs. search needs) index-requires returns)

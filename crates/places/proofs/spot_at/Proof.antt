@@ -17,22 +17,13 @@ shifted c =
     back-as (c .from-start .ensures ∙ ap (λ (z : ℤ). pos (c .before .args .x) -ℤ z) (toZ-ofZ (c .before .fits .start)))
     (omega (arith, mag-sub (pos (c .before .args .x)) (c .before .args .start)))
 
-from-start-requires : tie.Need-from-start-requires
-from-start-requires c κs = search needs
-
 returns : tie.Need-returns
 returns c = rw (c .if1 .taken) (spot-empty _ _)
-
-rem-euclid-requires : tie.Need-rem-euclid-requires
-rem-euclid-requires c κs = search needs
 
 returns-2 : tie.Need-returns-2
 returns-2 c =
     rw (c .before .if2 .taken, ← shifted (c .before .before .before), c .rem-euclid .ensures)
     (spot-tiled _ _ (c .before .before .if1 .left))
-
-inside-requires : tie.Need-inside-requires
-inside-requires c κs = search needs
 
 returns-3 : tie.Need-returns-3
 returns-3 c =
@@ -42,4 +33,4 @@ returns-3 c =
 pub spot-at-spec : {M : Type 1} → statement M
 spot-at-spec =
     tie.close
-    (tie.spec from-start-requires returns rem-euclid-requires returns-2 inside-requires returns-3)
+    (tie.spec (λ c κs. search needs) returns (λ c κs. search needs) returns-2 (λ c κs. search needs) returns-3)

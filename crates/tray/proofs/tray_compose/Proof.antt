@@ -4,14 +4,8 @@ use borrow.Author.Needs.{needs}
 use Rattle.tray.proofs.tray_compose.Statement.{statement}
 use Rattle.tray.proofs.tray_compose.Tie as tie
 
-compose-requires : tie.Need-compose-requires
-compose-requires c κs = search needs
-
-same-length : tie.Need-same-length
-same-length c = search needs
-
 returns : tie.Need-returns
 returns c = let f = c .before .before .before .before .before .before .before .before .fits in rw (toZ-ofZ (f .width), toZ-ofZ (f .height), toZ-ofZ (f .channels)) at (c .before .before .compose .ensures)
 
 pub tray-compose-spec : {M : Type 1} → statement M
-tray-compose-spec = tie.close (tie.spec compose-requires same-length returns)
+tray-compose-spec = tie.close (tie.spec (λ c κs. search needs) (λ c. search needs) returns)

@@ -3,15 +3,6 @@ use borrow.Author.Needs.{needs}
 use Rattle.tray.proofs.tray_from_name.Statement.{statement}
 use Rattle.tray.proofs.tray_from_name.Tie as tie
 
-from-name-requires : tie.Need-from-name-requires
-from-name-requires c κs = search needs
-
-enum-known-n : tie.Need-enum-known-n
-enum-known-n c = search needs
-
-enum-told : tie.Need-enum-told
-enum-told c = search needs
-
 returns : tie.Need-returns
 returns c = rw (← c .before .before .before .from-name .ensures, c .before .n .given .1)
 
@@ -20,4 +11,4 @@ returns-2 c = rw (← c .before .before .from-name .ensures, c .enum-told .given
 
 pub tray-from-name-spec : {M : Type 1} → statement M
 tray-from-name-spec =
-    tie.close (tie.spec from-name-requires enum-known-n enum-told returns returns-2)
+    tie.close (tie.spec (λ c κs. search needs) (λ c. search needs) (λ c. search needs) returns returns-2)

@@ -6,21 +6,6 @@ use Rattle.tray.specs.Answers.{jobOutcome}
 use Rattle.tray.proofs.tray_job.Statement.{statement}
 use Rattle.tray.proofs.tray_job.Tie as tie
 
-run-requires : tie.Need-run-requires
-run-requires c κs = search needs
-
-flag-requires : tie.Need-flag-requires
-flag-requires c κs = search needs
-
-same-length : tie.Need-same-length
-same-length c = search needs
-
-same-length-2 : tie.Need-same-length-2
-same-length-2 c = search needs
-
-same-length-3 : tie.Need-same-length-3
-same-length-3 c = search needs
-
 returns : tie.Need-returns
 returns c =
     let r = c .before .before .before .before .before .before .before in
@@ -30,4 +15,4 @@ returns c =
 
 pub tray-job-spec : {M : Type 1} → statement M
 tray-job-spec =
-    tie.close (tie.spec run-requires flag-requires same-length same-length-2 same-length-3 returns)
+    tie.close (tie.spec (λ c κs. search needs) (λ c κs. search needs) (λ c. search needs) (λ c. search needs) (λ c. search needs) returns)

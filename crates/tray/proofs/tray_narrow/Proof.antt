@@ -4,14 +4,8 @@ use borrow.Author.Needs.{needs}
 use Rattle.tray.proofs.tray_narrow.Statement.{statement}
 use Rattle.tray.proofs.tray_narrow.Tie as tie
 
-narrow-requires : tie.Need-narrow-requires
-narrow-requires c κs = search needs
-
-same-length : tie.Need-same-length
-same-length c = search needs
-
 returns : tie.Need-returns
 returns c = rw (toZ-ofZ (c .before .before .before .before .before .before .fits .wanted)) at (c .before .before .narrow .ensures)
 
 pub tray-narrow-spec : {M : Type 1} → statement M
-tray-narrow-spec = tie.close (tie.spec narrow-requires same-length returns)
+tray-narrow-spec = tie.close (tie.spec (λ c κs. search needs) (λ c. search needs) returns)

@@ -4,14 +4,8 @@ use borrow.Author.Needs.{needs}
 use Rattle.tray.proofs.tray_narrow_bytes.Statement.{statement}
 use Rattle.tray.proofs.tray_narrow_bytes.Tie as tie
 
-narrow-bytes-requires : tie.Need-narrow-bytes-requires
-narrow-bytes-requires c κs = search needs
-
-same-length : tie.Need-same-length
-same-length c = search needs
-
 returns : tie.Need-returns
 returns c = rw (toZ-ofZ (c .before .before .before .before .before .before .fits .wanted)) at (c .before .before .narrow-bytes .ensures)
 
 pub tray-narrow-bytes-spec : {M : Type 1} → statement M
-tray-narrow-bytes-spec = tie.close (tie.spec narrow-bytes-requires same-length returns)
+tray-narrow-bytes-spec = tie.close (tie.spec (λ c κs. search needs) (λ c. search needs) returns)

@@ -14,12 +14,9 @@ returns-2 : tie.Need-returns-2
 unfolding colorDodgeOf
 returns-2 c = yes _ _ (c .if2 .taken) ∙ no _ _ (c .before .if1 .left)
 
-smaller-requires : tie.Need-smaller-requires
-smaller-requires c κs = search needs
-
 returns-3 : tie.Need-returns-3
 unfolding colorDodgeOf
 returns-3 c = c .smaller .ensures ∙ no _ _ (c .before .if2 .left) ∙ no _ _ (c .before .before .if1 .left)
 
 pub color-dodge-spec : {M : Type 1} → statement M
-color-dodge-spec = tie.close (tie.spec returns returns-2 smaller-requires returns-3)
+color-dodge-spec = tie.close (tie.spec returns returns-2 (λ c κs. search needs) returns-3)

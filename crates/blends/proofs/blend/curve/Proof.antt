@@ -10,12 +10,9 @@ returns : tie.Need-returns
 unfolding curveOf
 returns c = yes _ _ (c .if1 .taken)
 
-sqrt-requires : tie.Need-sqrt-requires
-sqrt-requires c κs = search needs
-
 returns-2 : tie.Need-returns-2
 unfolding curveOf
 returns-2 c = c .sqrt .ensures ∙ no _ _ (c .before .if1 .left)
 
 pub curve-spec : {M : Type 1} → statement M
-curve-spec = tie.close (tie.spec returns sqrt-requires returns-2)
+curve-spec = tie.close (tie.spec returns (λ c κs. search needs) returns-2)

@@ -5,12 +5,6 @@ use borrow.Author.Needs.{needs}
 use Rattle.blends.proofs.blend.hard_mix.Statement.{statement}
 use Rattle.blends.proofs.blend.hard_mix.Tie as tie
 
-vivid-light-requires : tie.Need-vivid-light-requires
-vivid-light-requires c κs = search needs
-
-unit-requires : tie.Need-unit-requires
-unit-requires c κs = search needs
-
 returns : tie.Need-returns
 unfolding hardMixOf
 returns c = rw (← c .before .before .vivid-light .ensures, ← c .before .unit .ensures) (yes _ _ (c .if1 .taken))
@@ -20,4 +14,4 @@ unfolding hardMixOf
 returns-2 c = rw (← c .before .before .vivid-light .ensures, ← c .before .unit .ensures) (no _ _ (c .if1 .left))
 
 pub hard-mix-spec : {M : Type 1} → statement M
-hard-mix-spec = tie.close (tie.spec vivid-light-requires unit-requires returns returns-2)
+hard-mix-spec = tie.close (tie.spec (λ c κs. search needs) (λ c κs. search needs) returns returns-2)

@@ -3,11 +3,8 @@ use borrow.Author.Needs.{needs}
 use Rattle.blends.proofs.blend.negate.Statement.{statement}
 use Rattle.blends.proofs.blend.negate.Tie as tie
 
-abs-requires : tie.Need-abs-requires
-abs-requires c κs = search needs
-
 returns : tie.Need-returns
 returns c = rw (c .abs .ensures)
 
 pub negate-spec : {M : Type 1} → statement M
-negate-spec = tie.close (tie.spec abs-requires returns)
+negate-spec = tie.close (tie.spec (λ c κs. search needs) returns)

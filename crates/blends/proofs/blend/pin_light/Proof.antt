@@ -6,19 +6,13 @@ use borrow.Author.Needs.{needs}
 use Rattle.blends.proofs.blend.pin_light.Statement.{statement}
 use Rattle.blends.proofs.blend.pin_light.Tie as tie
 
-smaller-requires : tie.Need-smaller-requires
-smaller-requires c κs = search needs
-
 returns : tie.Need-returns
 unfolding pinLightOf
 returns c = c .smaller .ensures ∙ yes _ _ (c .before .if1 .taken)
-
-larger-requires : tie.Need-larger-requires
-larger-requires c κs = search needs
 
 returns-2 : tie.Need-returns-2
 unfolding pinLightOf
 returns-2 c = c .larger .ensures ∙ no _ _ (c .before .if1 .left)
 
 pub pin-light-spec : {M : Type 1} → statement M
-pin-light-spec = tie.close (tie.spec smaller-requires returns larger-requires returns-2)
+pin-light-spec = tie.close (tie.spec (λ c κs. search needs) returns (λ c κs. search needs) returns-2)

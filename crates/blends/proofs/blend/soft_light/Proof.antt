@@ -9,12 +9,9 @@ returns : tie.Need-returns
 unfolding softLightOf
 returns c = yes _ _ (c .if1 .taken)
 
-curve-requires : tie.Need-curve-requires
-curve-requires c κs = search needs
-
 returns-2 : tie.Need-returns-2
 unfolding softLightOf
 returns-2 c = rw (c .curve .ensures) (no _ _ (c .before .if1 .left))
 
 pub soft-light-spec : {M : Type 1} → statement M
-soft-light-spec = tie.close (tie.spec returns curve-requires returns-2)
+soft-light-spec = tie.close (tie.spec returns (λ c κs. search needs) returns-2)

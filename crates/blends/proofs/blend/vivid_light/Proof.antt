@@ -6,19 +6,13 @@ use borrow.Author.Needs.{needs}
 use Rattle.blends.proofs.blend.vivid_light.Statement.{statement}
 use Rattle.blends.proofs.blend.vivid_light.Tie as tie
 
-color-burn-requires : tie.Need-color-burn-requires
-color-burn-requires c κs = search needs
-
 returns : tie.Need-returns
 unfolding vividLightOf
 returns c = c .color-burn .ensures ∙ yes _ _ (c .before .if1 .taken)
-
-color-dodge-requires : tie.Need-color-dodge-requires
-color-dodge-requires c κs = search needs
 
 returns-2 : tie.Need-returns-2
 unfolding vividLightOf
 returns-2 c = c .color-dodge .ensures ∙ no _ _ (c .before .if1 .left)
 
 pub vivid-light-spec : {M : Type 1} → statement M
-vivid-light-spec = tie.close (tie.spec color-burn-requires returns color-dodge-requires returns-2)
+vivid-light-spec = tie.close (tie.spec (λ c κs. search needs) returns (λ c κs. search needs) returns-2)

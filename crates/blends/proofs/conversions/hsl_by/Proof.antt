@@ -9,15 +9,9 @@ returns : tie.Need-returns
 unfolding hslBy
 returns c = yes _ _ (c .if1 .taken)
 
-hue-requires : tie.Need-hue-requires
-hue-requires c κs = search needs
-
-saturation-requires : tie.Need-saturation-requires
-saturation-requires c κs = search needs
-
 returns-2 : tie.Need-returns-2
 unfolding hslBy
 returns-2 c = rw (c .before .hue .ensures, c .saturation .ensures) (no _ _ (c .before .before .if1 .left))
 
 pub hsl-by-spec : {M : Type 1} → statement M
-hsl-by-spec = tie.close (tie.spec returns hue-requires saturation-requires returns-2)
+hsl-by-spec = tie.close (tie.spec returns (λ c κs. search needs) (λ c κs. search needs) returns-2)

@@ -10,15 +10,9 @@ returns : tie.Need-returns
 unfolding hslToRgbOf
 returns c = yes _ _ (c .if1 .taken)
 
-upper-requires : tie.Need-upper-requires
-upper-requires c κs = search needs
-
-rgb-by-requires : tie.Need-rgb-by-requires
-rgb-by-requires c κs = search needs
-
 returns-2 : tie.Need-returns-2
 unfolding hslToRgbOf
 returns-2 c = rw (c .rgb-by .ensures, c .before .upper .ensures) (no _ _ (c .before .before .if1 .left))
 
 pub hsl-to-rgb-spec : {M : Type 1} → statement M
-hsl-to-rgb-spec = tie.close (tie.spec returns upper-requires rgb-by-requires returns-2)
+hsl-to-rgb-spec = tie.close (tie.spec returns (λ c κs. search needs) (λ c κs. search needs) returns-2)

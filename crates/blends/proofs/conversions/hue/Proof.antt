@@ -6,9 +6,6 @@ use borrow.Author.Needs.{needs}
 use Rattle.blends.proofs.conversions.hue.Statement.{statement}
 use Rattle.blends.proofs.conversions.hue.Tie as tie
 
-rem-euclid-requires : tie.Need-rem-euclid-requires
-rem-euclid-requires c κs = search needs
-
 returns : tie.Need-returns
 unfolding hueOf
 returns c = c .rem-euclid .ensures ∙ yes _ _ (c .before .if1 .taken)
@@ -22,4 +19,4 @@ unfolding hueOf
 returns-3 c = no _ _ (c .if2 .left) ∙ no _ _ (c .before .if1 .left)
 
 pub hue-spec : {M : Type 1} → statement M
-hue-spec = tie.close (tie.spec rem-euclid-requires returns returns-2 returns-3)
+hue-spec = tie.close (tie.spec (λ c κs. search needs) returns returns-2 returns-3)

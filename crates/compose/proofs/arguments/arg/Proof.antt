@@ -6,12 +6,6 @@ use borrow.Author.Needs.{needs}
 use Rattle.compose.proofs.arguments.arg.Statement.{statement}
 use Rattle.compose.proofs.arguments.arg.Tie as tie
 
-value-requires : tie.Need-value-requires
-value-requires c κs = search needs
-
-finite-requires : tie.Need-finite-requires
-finite-requires c κs = search needs
-
 returns : tie.Need-returns
 unfolding argBy
 returns c = rw (lt-ltb _ _ (c .before .before .before .if1 .taken), ← c .before .before .value .ensures, ← c .before .finite .ensures) (yes _ _ (c .if2 .taken))
@@ -25,4 +19,4 @@ unfolding argBy
 returns-3 c = rw (le-ltb _ _ (c .if1 .left))
 
 pub arg-spec : {M : Type 1} → statement M
-arg-spec = tie.close (tie.spec value-requires finite-requires returns returns-2 returns-3)
+arg-spec = tie.close (tie.spec (λ c κs. search needs) (λ c κs. search needs) returns returns-2 returns-3)

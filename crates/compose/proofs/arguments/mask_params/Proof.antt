@@ -3,14 +3,8 @@ use borrow.Author.Needs.{needs}
 use Rattle.compose.proofs.arguments.mask_params.Statement.{statement}
 use Rattle.compose.proofs.arguments.mask_params.Tie as tie
 
-arg-requires : tie.Need-arg-requires
-arg-requires c κs = search needs
-
-two-requires : tie.Need-two-requires
-two-requires c κs = search needs
-
 returns : tie.Need-returns
 returns c = rw (c .two .ensures, c .before .arg .ensures)
 
 pub mask-params-spec : {M : Type 1} → statement M
-mask-params-spec = tie.close (tie.spec arg-requires two-requires returns)
+mask-params-spec = tie.close (tie.spec (λ c κs. search needs) (λ c κs. search needs) returns)

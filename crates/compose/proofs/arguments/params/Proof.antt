@@ -5,63 +5,33 @@ use borrow.Author.Needs.{needs}
 use Rattle.compose.proofs.arguments.params.Statement.{statement}
 use Rattle.compose.proofs.arguments.params.Tie as tie
 
-number-requires : tie.Need-number-requires
-number-requires c κs = search needs
-
-blend-params-requires : tie.Need-blend-params-requires
-blend-params-requires c κs = search needs
-
 returns : tie.Need-returns
 unfolding paramsOf
 returns c = rw (← c .before .before .number .ensures, eq-eqb _ _ (c .before .if1 .taken)) (c .blend-params .ensures)
-
-dissolve-params-requires : tie.Need-dissolve-params-requires
-dissolve-params-requires c κs = search needs
 
 returns-2 : tie.Need-returns-2
 unfolding paramsOf
 returns-2 c = rw (← c .before .before .before .number .ensures, ne-eqb _ _ (c .before .before .if1 .left), eq-eqb _ _ (c .before .if2 .taken)) (c .dissolve-params .ensures)
 
-mask-params-requires : tie.Need-mask-params-requires
-mask-params-requires c κs = search needs
-
 returns-3 : tie.Need-returns-3
 unfolding paramsOf
 returns-3 c = rw (← c .before .before .before .before .number .ensures, ne-eqb _ _ (c .before .before .before .if1 .left), ne-eqb _ _ (c .before .before .if2 .left), eq-eqb _ _ (c .before .if3 .taken)) (c .mask-params .ensures)
-
-threshold-params-requires : tie.Need-threshold-params-requires
-threshold-params-requires c κs = search needs
 
 returns-4 : tie.Need-returns-4
 unfolding paramsOf
 returns-4 c = rw (← c .before .before .before .before .before .number .ensures, ne-eqb _ _ (c .before .before .before .before .if1 .left), ne-eqb _ _ (c .before .before .before .if2 .left), ne-eqb _ _ (c .before .before .if3 .left), eq-eqb _ _ (c .before .if4 .taken)) (c .threshold-params .ensures)
 
-modulate-params-requires : tie.Need-modulate-params-requires
-modulate-params-requires c κs = search needs
-
 returns-5 : tie.Need-returns-5
 unfolding paramsOf
 returns-5 c = rw (← c .before .before .before .before .before .before .number .ensures, ne-eqb _ _ (c .before .before .before .before .before .if1 .left), ne-eqb _ _ (c .before .before .before .before .if2 .left), ne-eqb _ _ (c .before .before .before .if3 .left), ne-eqb _ _ (c .before .before .if4 .left), eq-eqb _ _ (c .before .if5 .taken)) (c .modulate-params .ensures)
-
-raw-params-requires : tie.Need-raw-params-requires
-raw-params-requires c κs = search needs
 
 returns-6 : tie.Need-returns-6
 unfolding paramsOf
 returns-6 c = rw (← c .before .before .before .before .before .before .before .number .ensures, ne-eqb _ _ (c .before .before .before .before .before .before .if1 .left), ne-eqb _ _ (c .before .before .before .before .before .if2 .left), ne-eqb _ _ (c .before .before .before .before .if3 .left), ne-eqb _ _ (c .before .before .before .if4 .left), ne-eqb _ _ (c .before .before .if5 .left), eq-eqb _ _ (c .before .if6 .taken)) (c .raw-params .ensures)
 
-is-map-requires : tie.Need-is-map-requires
-is-map-requires c κs = search needs
-
-map-params-requires : tie.Need-map-params-requires
-map-params-requires c κs = search needs
-
 returns-7 : tie.Need-returns-7
 unfolding paramsOf
 returns-7 c = rw (← c .before .before .is-map .ensures, ← c .before .before .before .before .before .before .before .before .before .number .ensures, ne-eqb _ _ (c .before .before .before .before .before .before .before .before .if1 .left), ne-eqb _ _ (c .before .before .before .before .before .before .before .if2 .left), ne-eqb _ _ (c .before .before .before .before .before .before .if3 .left), ne-eqb _ _ (c .before .before .before .before .before .if4 .left), ne-eqb _ _ (c .before .before .before .before .if5 .left), ne-eqb _ _ (c .before .before .before .if6 .left), c .before .if7 .taken) (c .map-params .ensures)
-
-two-requires : tie.Need-two-requires
-two-requires c κs = search needs
 
 returns-8 : tie.Need-returns-8
 unfolding paramsOf
@@ -71,21 +41,21 @@ pub params-spec : {M : Type 1} → statement M
 params-spec =
     tie.close
     (tie.spec
-    number-requires
-    blend-params-requires
+    (λ c κs. search needs)
+    (λ c κs. search needs)
     returns
-    dissolve-params-requires
+    (λ c κs. search needs)
     returns-2
-    mask-params-requires
+    (λ c κs. search needs)
     returns-3
-    threshold-params-requires
+    (λ c κs. search needs)
     returns-4
-    modulate-params-requires
+    (λ c κs. search needs)
     returns-5
-    raw-params-requires
+    (λ c κs. search needs)
     returns-6
-    is-map-requires
-    map-params-requires
+    (λ c κs. search needs)
+    (λ c κs. search needs)
     returns-7
-    two-requires
+    (λ c κs. search needs)
     returns-8)

@@ -7,9 +7,6 @@ use borrow.Author.Needs.{needs}
 use Rattle.compose.proofs.arguments.raw.Statement.{statement}
 use Rattle.compose.proofs.arguments.raw.Tie as tie
 
-value-requires : tie.Need-value-requires
-value-requires c κs = search needs
-
 returns : tie.Need-returns
 unfolding rawBy
 returns c = c .value .ensures ∙ yes _ _ (lt-ltb _ _ (c .before .if1 .taken))
@@ -19,4 +16,4 @@ unfolding rawBy
 returns-2 c = no _ _ (le-ltb _ _ (c .if1 .left))
 
 pub raw-spec : {M : Type 1} → statement M
-raw-spec = tie.close (tie.spec value-requires returns returns-2)
+raw-spec = tie.close (tie.spec (λ c κs. search needs) returns returns-2)

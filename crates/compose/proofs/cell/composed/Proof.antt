@@ -14,20 +14,8 @@ spot c = let s = c .before .before .before in c .source-index .ensures ∙ rw (s
 source-index-requires : tie.Need-source-index-requires
 source-index-requires c κs = let s = c .before .before in rw (s .pre .2, s .pre .3) (reached _ _ _ _ _ (s .pre .0) (s .pre .1))
 
-writing-requires : tie.Need-writing-requires
-writing-requires c κs = search needs
-
 source-pixel-requires : tie.Need-source-pixel-requires
 source-pixel-requires c κs = (c .before .before .before .before .before .pre .0, spot-held _ _ _ _ _ _ _ (spot (c .before .before)))
-
-values-requires : tie.Need-values-requires
-values-requires c κs = search needs
-
-result-requires : tie.Need-result-requires
-result-requires c κs = search needs
-
-written-requires : tie.Need-written-requires
-written-requires c κs = search needs
 
 returns : tie.Need-returns
 unfolding composedBy
@@ -42,10 +30,10 @@ composed-spec =
     tie.close
     (tie.spec
     source-index-requires
-    writing-requires
+    (λ c κs. search needs)
     source-pixel-requires
-    values-requires
-    result-requires
-    written-requires
+    (λ c κs. search needs)
+    (λ c κs. search needs)
+    (λ c κs. search needs)
     returns
     returns-2)

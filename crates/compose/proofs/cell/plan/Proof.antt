@@ -7,18 +7,6 @@ use borrow.Author.Needs.{needs}
 use Rattle.compose.proofs.cell.plan.Statement.{statement}
 use Rattle.compose.proofs.cell.plan.Tie as tie
 
-params-requires : tie.Need-params-requires
-params-requires c κs = search needs
-
-is-map-requires : tie.Need-is-map-requires
-is-map-requires c κs = search needs
-
-number-requires : tie.Need-number-requires
-number-requires c κs = search needs
-
-placement-requires : tie.Need-placement-requires
-placement-requires c κs = search needs
-
 returns : tie.Need-returns
 unfolding planOf
 returns c =
@@ -36,4 +24,4 @@ returns c =
 
 pub plan-spec : {M : Type 1} → statement M
 plan-spec =
-    tie.close (tie.spec params-requires is-map-requires number-requires placement-requires returns)
+    tie.close (tie.spec (λ c κs. search needs) (λ c κs. search needs) (λ c κs. search needs) (λ c κs. search needs) returns)

@@ -6,19 +6,13 @@ use borrow.Author.Needs.{needs}
 use Rattle.compose.proofs.cell.result.Statement.{statement}
 use Rattle.compose.proofs.cell.result.Tie as tie
 
-map-pixel-requires : tie.Need-map-pixel-requires
-map-pixel-requires c κs = search needs
-
 returns : tie.Need-returns
 unfolding resultOf
 returns c = c .map-pixel .ensures ∙ yes _ _ (c .before .if1 .taken)
-
-pixel-requires : tie.Need-pixel-requires
-pixel-requires c κs = search needs
 
 returns-2 : tie.Need-returns-2
 unfolding resultOf
 returns-2 c = c .pixel .ensures ∙ no _ _ (c .before .if1 .left)
 
 pub result-spec : {M : Type 1} → statement M
-result-spec = tie.close (tie.spec map-pixel-requires returns pixel-requires returns-2)
+result-spec = tie.close (tie.spec (λ c κs. search needs) returns (λ c κs. search needs) returns-2)

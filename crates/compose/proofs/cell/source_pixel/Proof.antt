@@ -5,20 +5,11 @@ use Rattle.pictures.proofs.Inside.{words-inside}
 use Rattle.compose.proofs.cell.source_pixel.Statement.{statement}
 use Rattle.compose.proofs.cell.source_pixel.Tie as tie
 
-enum-known-spot : tie.Need-enum-known-spot
-enum-known-spot c = search needs
-
 rgba-at-requires : tie.Need-rgba-at-requires
 rgba-at-requires c κs =
     let s = c .before .before .before .before in
     let r = s .pre .0 in
     (r .some, r .most, rw (r .whole) (words-inside _ _ _ (rw (c .before .spot .given .1) at (s .pre .1))))
-
-values-requires : tie.Need-values-requires
-values-requires c κs = search needs
-
-enum-told : tie.Need-enum-told
-enum-told c = search needs
 
 returns : tie.Need-returns
 unfolding sourcePixel
@@ -31,4 +22,4 @@ returns-2 c = rw (c .enum-told .given .1)
 pub source-pixel-spec : {M : Type 1} → statement M
 source-pixel-spec =
     tie.close
-    (tie.spec enum-known-spot rgba-at-requires values-requires enum-told returns returns-2)
+    (tie.spec (λ c. search needs) rgba-at-requires (λ c κs. search needs) (λ c. search needs) returns returns-2)

@@ -4,9 +4,6 @@ use borrow.Author.Needs.{needs}
 use Rattle.compose.proofs.cell.written_word.Statement.{statement}
 use Rattle.compose.proofs.cell.written_word.Tie as tie
 
-word-requires : tie.Need-word-requires
-word-requires c κs = search needs
-
 returns : tie.Need-returns
 returns c = rw (c .before .if1 .taken) (c .word .ensures)
 
@@ -14,4 +11,4 @@ returns-2 : tie.Need-returns-2
 returns-2 c = rw (c .if1 .left)
 
 pub written-word-spec : {M : Type 1} → statement M
-written-word-spec = tie.close (tie.spec word-requires returns returns-2)
+written-word-spec = tie.close (tie.spec (λ c κs. search needs) returns returns-2)

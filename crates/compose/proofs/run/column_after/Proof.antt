@@ -5,17 +5,11 @@ use native.Mathlib.Omega.{arith}
 use Rattle.compose.proofs.run.column_after.Statement.{statement}
 use Rattle.compose.proofs.run.column_after.Tie as tie
 
-add-if1 : tie.Need-add-if1
-add-if1 c = search needs
-
 returns : tie.Need-returns
 returns c = column-wraps _ _ (c .if1 .taken)
-
-add-result : tie.Need-add-result
-add-result c = search needs
 
 returns-2 : tie.Need-returns-2
 returns-2 c = column-on _ _ (omega arith)
 
 pub column-after-spec : {M : Type 1} → statement M
-column-after-spec = tie.close (tie.spec add-if1 returns add-result returns-2)
+column-after-spec = tie.close (tie.spec (λ c. search needs) returns (λ c. search needs) returns-2)

@@ -5,12 +5,6 @@ use native.Mathlib.Omega.{arith}
 use Rattle.compose.proofs.run.row_after.Statement.{statement}
 use Rattle.compose.proofs.run.row_after.Tie as tie
 
-add-if1 : tie.Need-add-if1
-add-if1 c = search needs
-
-add-result : tie.Need-add-result
-add-result c = search needs
-
 returns : tie.Need-returns
 returns c = row-wraps _ _ _ (c .if1 .taken)
 
@@ -18,4 +12,4 @@ returns-2 : tie.Need-returns-2
 returns-2 c = row-on _ _ _ (omega arith)
 
 pub row-after-spec : {M : Type 1} → statement M
-row-after-spec = tie.close (tie.spec add-if1 add-result returns returns-2)
+row-after-spec = tie.close (tie.spec (λ c. search needs) (λ c. search needs) returns returns-2)

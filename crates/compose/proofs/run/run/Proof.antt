@@ -78,9 +78,6 @@ row-after-requires c κs =
 column-after-requires : tie.Need-column-after-requires Inv-loop μ-loop
 column-after-requires c κs = column (c .before .before .before .before .before .before .before)
 
-add-i : tie.Need-add-i Inv-loop μ-loop
-add-i c = search needs
-
 loop-less : tie.Need-loop-less Inv-loop μ-loop
 loop-less c = omega arith
 
@@ -128,7 +125,7 @@ run-spec =
     put-requires
     row-after-requires
     column-after-requires
-    add-i
+    (λ c. search needs)
     loop-less
     loop-again
     same-length

@@ -10,22 +10,10 @@ use borrow.Author.Needs.{needs}
 use Rattle.compose.proofs.single.chunk.Statement.{statement}
 use Rattle.compose.proofs.single.chunk.Tie as tie
 
-slice-aggregate-widen : tie.Need-slice-aggregate-widen
-slice-aggregate-widen c = search needs
-
 widen-requires : tie.Need-widen-requires
 widen-requires c κs =
     let r = c .before .before .before .before .pre in
     (r .1 .some, r .1 .most, run-words _ _ _ _ _ (r .1), omega (arith, r .2))
-
-slice-aggregate-run : tie.Need-slice-aggregate-run
-slice-aggregate-run c = search needs
-
-run-requires : tie.Need-run-requires
-run-requires c κs = search needs
-
-same-length : tie.Need-same-length
-same-length c = search needs
 
 returns : tie.Need-returns
 returns c =
@@ -46,9 +34,9 @@ pub chunk-spec : {M : Type 1} → statement M
 chunk-spec =
     tie.close
     (tie.spec
-    slice-aggregate-widen
+    (λ c. search needs)
     widen-requires
-    slice-aggregate-run
-    run-requires
-    same-length
+    (λ c. search needs)
+    (λ c κs. search needs)
+    (λ c. search needs)
     returns)

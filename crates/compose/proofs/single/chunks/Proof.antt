@@ -33,21 +33,6 @@ sub-least c = omega arith
 least-requires : tie.Need-least-requires Inv-loop μ-loop
 least-requires c κs = tt
 
-mul-at : tie.Need-mul-at Inv-loop μ-loop
-mul-at c = search needs
-
-mul-chunk : tie.Need-mul-chunk Inv-loop μ-loop
-mul-chunk c = search needs
-
-sub-chunk : tie.Need-sub-chunk Inv-loop μ-loop
-sub-chunk c = search needs
-
-part-chunk-start : tie.Need-part-chunk-start Inv-loop μ-loop
-part-chunk-start c = search needs
-
-part-chunk-end : tie.Need-part-chunk-end Inv-loop μ-loop
-part-chunk-end c = search needs
-
 chunk-requires : tie.Need-chunk-requires Inv-loop μ-loop
 chunk-requires c κs =
     let s = c .before .before .before .before .before .before .before in
@@ -93,11 +78,11 @@ chunks-spec =
     loop-holds
     sub-least
     least-requires
-    mul-at
-    mul-chunk
-    sub-chunk
-    part-chunk-start
-    part-chunk-end
+    (λ c. search needs)
+    (λ c. search needs)
+    (λ c. search needs)
+    (λ c. search needs)
+    (λ c. search needs)
     chunk-requires
     add-j
     loop-less

@@ -62,18 +62,9 @@ small c =
     let g = good (c .before .before .before) (c .before .before .if1 .left) in
     rw (e .wide, e .high) (plane _ _ (g .shape .wide .most) (g .shape .high .most))
 
-check-requires : tie.Need-check-requires
-check-requires c κs = search needs
-
 returns : tie.Need-returns
 unfolding inputs start
 returns c = refused (inputs (start (c .before))) _ _ (told (c .before)) (c .if1 .taken)
-
-natural-requires : tie.Need-natural-requires
-natural-requires c κs = search needs
-
-natural-requires-2 : tie.Need-natural-requires-2
-natural-requires-2 c κs = search needs
 
 mul-size : tie.Need-mul-size
 mul-size c = record { fits = omega (arith, small c) }
@@ -87,9 +78,6 @@ returns-2 c =
     let n = c .before in
     let a = n .before .before .before in
     unfit (inputs (start a)) _ _ (told a) (n .before .before .if1 .left) (λ e. c .if2 .taken (rw (sides n .wide, sides n .high) e))
-
-natural-requires-3 : tie.Need-natural-requires-3
-natural-requires-3 c κs = search needs
 
 at-requires : tie.Need-at-requires
 unfolding inputs start natOf
@@ -116,9 +104,6 @@ whole-requires c κs =
       d .before .if2 .left,
     )
 
-same-length : tie.Need-same-length
-same-length c = search needs
-
 returns-3 : tie.Need-returns-3
 unfolding inputs start
 returns-3 c =
@@ -134,15 +119,15 @@ pub compose-spec : {M : Type 1} → statement M
 compose-spec =
     tie.close
     (tie.spec
-    check-requires
+    (λ c κs. search needs)
     returns
-    natural-requires
-    natural-requires-2
+    (λ c κs. search needs)
+    (λ c κs. search needs)
     mul-size
     mul-size-2
     returns-2
-    natural-requires-3
+    (λ c κs. search needs)
     at-requires
     whole-requires
-    same-length
+    (λ c. search needs)
     returns-3)

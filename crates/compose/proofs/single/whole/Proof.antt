@@ -17,24 +17,6 @@ mul-end c =
     let g = c .before .before .before .before .before .before .pre .0 in
     record { fits = omega (arith, plane _ _ (g .width) (g .height)) }
 
-mul-end-2 : tie.Need-mul-end-2
-mul-end-2 c = search needs
-
-add-end : tie.Need-add-end
-add-end c = search needs
-
-mul-chunks : tie.Need-mul-chunks
-mul-chunks c = search needs
-
-sub-chunks : tie.Need-sub-chunks
-sub-chunks c = search needs
-
-part-chunks-start : tie.Need-part-chunks-start
-part-chunks-start c = search needs
-
-part-chunks-end : tie.Need-part-chunks-end
-part-chunks-end c = search needs
-
 mul-chunks-2 : tie.Need-mul-chunks-2
 mul-chunks-2 c =
     let m = c .before .before .before .before .before .before .before .before .pre .1 in
@@ -50,9 +32,6 @@ chunks-requires c κs =
       s .pre .5,
     )
 
-same-length : tie.Need-same-length
-same-length c = search needs
-
 returns : tie.Need-returns
 returns c =
     let k = c .before .before in
@@ -66,13 +45,13 @@ whole-spec =
     (tie.spec
     plan-requires
     mul-end
-    mul-end-2
-    add-end
-    mul-chunks
-    sub-chunks
-    part-chunks-start
-    part-chunks-end
+    (λ c. search needs)
+    (λ c. search needs)
+    (λ c. search needs)
+    (λ c. search needs)
+    (λ c. search needs)
+    (λ c. search needs)
     mul-chunks-2
     chunks-requires
-    same-length
+    (λ c. search needs)
     returns)

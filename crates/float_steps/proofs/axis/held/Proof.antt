@@ -10,12 +10,9 @@ returns : tie.Need-returns
 unfolding heldOf
 returns c = rw (← ne-self (c .before .args .x)) (yes _ _ (c .if1 .taken))
 
-clamp-requires : tie.Need-clamp-requires
-clamp-requires c κs = search needs
-
 returns-2 : tie.Need-returns-2
 unfolding heldOf
 returns-2 c = rw (← ne-self (c .before .before .args .x), ← c .clamp .ensures) (no _ _ (c .before .if1 .left))
 
 pub held-spec : {M : Type 1} → statement M
-held-spec = tie.close (tie.spec returns clamp-requires returns-2)
+held-spec = tie.close (tie.spec returns (λ c κs. search needs) returns-2)

@@ -12,20 +12,8 @@ use Rattle.float_steps.proofs.WholePart.{in-float}
 use Rattle.float_steps.proofs.axis.locate.Statement.{statement}
 use Rattle.float_steps.proofs.axis.locate.Tie as tie
 
-last-of-requires : tie.Need-last-of-requires
-last-of-requires c κs = search needs
-
 int-to-float-held : tie.Need-int-to-float-held
 int-to-float-held c = in-float binary32 (c .before .last-of .result) (omega (arith, c .before .last-of .ensures))
-
-held-requires : tie.Need-held-requires
-held-requires c κs = search needs
-
-floor-requires : tie.Need-floor-requires
-floor-requires c κs = search needs
-
-after-requires : tie.Need-after-requires
-after-requires c κs = search needs
 
 int-to-float-t7 : tie.Need-int-to-float-t7
 int-to-float-t7 c =
@@ -44,10 +32,10 @@ pub locate-spec : {M : Type 1} → statement M
 locate-spec =
     tie.close
     (tie.spec
-    last-of-requires
+    (λ c κs. search needs)
     int-to-float-held
-    held-requires
-    floor-requires
-    after-requires
+    (λ c κs. search needs)
+    (λ c κs. search needs)
+    (λ c κs. search needs)
     int-to-float-t7
     returns)

@@ -10,8 +10,5 @@ use Rattle.float_steps.proofs.remainder.rem.Tie as tie
 returns : tie.Need-returns
 returns c = sym (between binary32 (c .before .before .args .v) (c .before .before .args .m) (told (c .before .before .good .0 .1)) (c .before .if1 .taken) (c .if2 .taken))
 
-returns-2 : tie.Need-returns-2
-returns-2 c = search needs
-
 pub rem-spec : {M : Type 1} → statement M
-rem-spec = tie.close (tie.spec returns returns-2)
+rem-spec = tie.close (tie.spec returns (λ c. search needs))

@@ -4,9 +4,6 @@ use Rattle.float_steps.specs.Remainder.{remEuclidOf}
 use Rattle.float_steps.proofs.remainder.rem_euclid.Statement.{statement}
 use Rattle.float_steps.proofs.remainder.rem_euclid.Tie as tie
 
-rem-requires : tie.Need-rem-requires
-rem-requires c κs = search needs
-
 returns : tie.Need-returns
 unfolding remEuclidOf
 returns c = rw (← c .before .rem .ensures, c .if1 .taken)
@@ -16,4 +13,4 @@ unfolding remEuclidOf
 returns-2 c = rw (← c .before .rem .ensures, c .if1 .left)
 
 pub rem-euclid-spec : {M : Type 1} → statement M
-rem-euclid-spec = tie.close (tie.spec rem-requires returns returns-2)
+rem-euclid-spec = tie.close (tie.spec (λ c κs. search needs) returns returns-2)

@@ -4,9 +4,6 @@ use Rattle.float_steps.specs.Remainder.{wrapOf}
 use Rattle.float_steps.proofs.remainder.wrap.Statement.{statement}
 use Rattle.float_steps.proofs.remainder.wrap.Tie as tie
 
-rem-euclid-requires : tie.Need-rem-euclid-requires
-rem-euclid-requires c κs = search needs
-
 returns : tie.Need-returns
 unfolding wrapOf
 returns c = rw (← c .before .before .rem-euclid .ensures, c .before .if1 .taken, c .if2 .taken)
@@ -20,4 +17,4 @@ unfolding wrapOf
 returns-3 c = rw (← c .before .rem-euclid .ensures, c .if1 .left)
 
 pub wrap-spec : {M : Type 1} → statement M
-wrap-spec = tie.close (tie.spec rem-euclid-requires returns returns-2 returns-3)
+wrap-spec = tie.close (tie.spec (λ c κs. search needs) returns returns-2 returns-3)

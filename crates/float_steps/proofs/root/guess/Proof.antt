@@ -12,16 +12,7 @@ int-to-float-x c = in-float binary64 (c .before .args .n) (c .before .pre)
 float-to-bits-g : tie.Need-float-to-bits-g
 float-to-bits-g c = not-nan _ (c .if1 .left)
 
-returns : tie.Need-returns
-returns c = search needs
-
-returns-2 : tie.Need-returns-2
-returns-2 c = search needs
-
-returns-3 : tie.Need-returns-3
-returns-3 c = search needs
-
 pub guess-spec : {M : Type 1} → statement M
 guess-spec =
     tie.close
-    (tie.spec int-to-float-x returns float-to-bits-g returns-2 returns-3)
+    (tie.spec int-to-float-x (λ c. search needs) float-to-bits-g (λ c. search needs) (λ c. search needs))

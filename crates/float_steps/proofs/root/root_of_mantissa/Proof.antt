@@ -7,26 +7,11 @@ use borrow.Author.Needs.{needs}
 use Rattle.float_steps.proofs.root.root_of_mantissa.Statement.{statement}
 use Rattle.float_steps.proofs.root.root_of_mantissa.Tie as tie
 
-mul-radicand : tie.Need-mul-radicand
-mul-radicand c = search needs
-
-add-radicand : tie.Need-add-radicand
-add-radicand c = search needs
-
-cast-radicand : tie.Need-cast-radicand
-cast-radicand c = search needs
-
 mul-radicand-2 : tie.Need-mul-radicand-2
 mul-radicand-2 c = omega (arith, radicand-hi (c .args .m) (c .args .scale) (c .pre .0) (c .pre .1))
 
 whole-root-requires : tie.Need-whole-root-requires
 whole-root-requires c κs = omega (arith, radicand-hi (c .args .m) (c .args .scale) (c .pre .0) (c .pre .1))
-
-sub-result : tie.Need-sub-result
-sub-result c = search needs
-
-mul-result : tie.Need-mul-result
-mul-result c = search needs
 
 -- the root has 25 digits
 small : (c : tie.After-whole-root) → c .whole-root .result < 0x1ff_ffff
@@ -48,13 +33,13 @@ pub root-of-mantissa-spec : {M : Type 1} → statement M
 root-of-mantissa-spec =
     tie.close
     (tie.spec
-    mul-radicand
-    add-radicand
-    cast-radicand
+    (λ c. search needs)
+    (λ c. search needs)
+    (λ c. search needs)
     mul-radicand-2
     whole-root-requires
-    sub-result
-    mul-result
+    (λ c. search needs)
+    (λ c. search needs)
     add-result
     cast-result
     add-result-2

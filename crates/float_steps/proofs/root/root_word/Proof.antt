@@ -28,15 +28,6 @@ root-of-mantissa-requires c κs = asked (c .before .args .w) (c .before .pre .0)
 returns : tie.Need-returns
 returns c = given (c .before .before .args .w) (c .before .before .pre .0) (c .before .if1 .taken) (c .root-of-mantissa .result) (c .root-of-mantissa .ensures)
 
-add-root-of-mantissa : tie.Need-add-root-of-mantissa
-add-root-of-mantissa c = search needs
-
-add-root-of-mantissa-2 : tie.Need-add-root-of-mantissa-2
-add-root-of-mantissa-2 c = search needs
-
-root-of-mantissa-requires-2 : tie.Need-root-of-mantissa-requires-2
-root-of-mantissa-requires-2 c κs = search needs
-
 returns-2 : tie.Need-returns-2
 returns-2 c = c .root-of-mantissa2 .ensures ∙ sym (sqrt-normal (c .before .before .args .w) (omega arith) (omega arith))
 
@@ -49,7 +40,7 @@ root-word-spec =
     sub-root-of-mantissa
     root-of-mantissa-requires
     returns
-    add-root-of-mantissa
-    add-root-of-mantissa-2
-    root-of-mantissa-requires-2
+    (λ c. search needs)
+    (λ c. search needs)
+    (λ c κs. search needs)
     returns-2)

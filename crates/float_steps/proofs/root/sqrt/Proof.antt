@@ -12,18 +12,12 @@ use borrow.Author.Needs.{needs}
 use Rattle.float_steps.proofs.root.sqrt.Statement.{statement}
 use Rattle.float_steps.proofs.root.sqrt.Tie as tie
 
-word-requires : tie.Need-word-requires
-word-requires c κs = search needs
-
 returns : tie.Need-returns
 returns c = sqrt-inf (c .before .before .before .args .v) (told (c .before .before .before .good .0 .1)) (sym (c .before .word .ensures) ∙ c .if2 .taken)
 
 root-word-requires : tie.Need-root-word-requires
 unfolding ofBits
 root-word-requires c κs = subst (λ (z : ℕ). (0 < z) × (z < 0x7f80_0000)) (sym (c .before .word .ensures)) (above-word (c .before .before .before .args .v) (told (c .before .before .before .good .0 .1)) (c .before .before .if1 .taken) (λ e. c .if2 .left (c .before .word .ensures ∙ e)))
-
-value-requires : tie.Need-value-requires
-value-requires c κs = search needs
 
 returns-2 : tie.Need-returns-2
 returns-2 c = c .value .ensures ∙ c .before .root-word .ensures ∙ ap sqrtOf (ap (λ (z : ℕ). ofBits binary32 z) (c .before .before .before .word .ensures) ∙ ofBits-toBits binary32 (c .before .before .before .before .before .args .v) (told (c .before .before .before .before .before .good .0 .1)))
@@ -40,10 +34,10 @@ pub sqrt-spec : {M : Type 1} → statement M
 sqrt-spec =
     tie.close
     (tie.spec
-    word-requires
+    (λ c κs. search needs)
     returns
     root-word-requires
-    value-requires
+    (λ c κs. search needs)
     returns-2
     returns-3
     returns-4)

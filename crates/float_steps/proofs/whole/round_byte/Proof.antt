@@ -15,9 +15,6 @@ returns : tie.Need-returns
 unfolding ofBits
 returns c = byte-high (c .before .args .x) (c .if1 .taken)
 
-floor-requires : tie.Need-floor-requires
-floor-requires c κs = search needs
-
 -- what is floored
 floored : (c : tie.After-floor) → c .floor .result ≡ num (c .before .before .before .args .x) * 2 / den (c .before .before .before .args .x)
 unfolding ofBits
@@ -41,4 +38,4 @@ returns-3 c = byte-nought (c .before .before .args .x) (c .if2 .left)
 
 pub round-byte-spec : {M : Type 1} → statement M
 round-byte-spec =
-    tie.close (tie.spec returns floor-requires add-result cast-result returns-2 returns-3)
+    tie.close (tie.spec returns (λ c κs. search needs) add-result cast-result returns-2 returns-3)

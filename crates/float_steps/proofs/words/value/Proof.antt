@@ -11,8 +11,5 @@ float-from-bits-result c = not-nan-word (c .before .args .word) (c .if1 .left)
 returns : tie.Need-returns
 returns c = zero-by-zero ∙ sym (nan-word (c .before .args .word) (c .if1 .taken))
 
-returns-2 : tie.Need-returns-2
-returns-2 c = search needs
-
 pub value-spec : {M : Type 1} → statement M
-value-spec = tie.close (tie.spec float-from-bits-result returns returns-2)
+value-spec = tie.close (tie.spec float-from-bits-result returns (λ c. search needs))

@@ -10,8 +10,5 @@ float-to-bits-result c = not-nan (c .before .args .v) (c .if1 .left)
 returns : tie.Need-returns
 returns c = nan-bits (c .before .args .v) (c .if1 .taken)
 
-returns-2 : tie.Need-returns-2
-returns-2 c = search needs
-
 pub word-spec : {M : Type 1} → statement M
-word-spec = tie.close (tie.spec float-to-bits-result returns returns-2)
+word-spec = tie.close (tie.spec float-to-bits-result returns (λ c. search needs))

@@ -36,15 +36,6 @@ made c = let s = start (c .before .before .before .before) in made-is (inputs (c
 deep : (c : tie.After-natural4) → c .natural4 .result ≡ natOf (start (c .before .before .before .before .before) .args .channels)
 deep c = rw (toZ-ofZ (start (c .before .before .before .before .before) .fits .channels)) at (c .natural4 .ensures)
 
-natural-requires : tie.Need-natural-requires
-natural-requires c κs = search needs
-
-natural-requires-2 : tie.Need-natural-requires-2
-natural-requires-2 c κs = search needs
-
-natural-requires-3 : tie.Need-natural-requires-3
-natural-requires-3 c κs = search needs
-
 add-end : tie.Need-add-end
 add-end c = rw (many c) (omega (arith, layers-small _ (none (c .before .before))))
 
@@ -63,12 +54,6 @@ sub-left c = let s = start (c .before .before .before) in rw (wide (c .before .b
 mul-left : tie.Need-mul-left
 mul-left c = rw (wide (c .before .before .before), high (c .before .before), many (c .before)) (omega (arith, end-small _ (none (c .before .before .before))))
 
-least-requires : tie.Need-least-requires
-least-requires c κs = search needs
-
-natural-requires-4 : tie.Need-natural-requires-4
-natural-requires-4 c κs = search needs
-
 writes-requires : tie.Need-writes-requires
 writes-requires c κs =
     let s = start (c .before .before .before .before .before .before .before .before) in
@@ -76,15 +61,6 @@ writes-requires c κs =
 
 slice-read-finished : tie.Need-slice-read-finished
 slice-read-finished c = let s = start (c .before .before .before .before .before .before .before .before .before .before .before .before .before .before .before .before) in omega (arith, call-held (inputs (c .before .before .before .before .before .before .before .before .before .before .before .before .before .before .before .before)) (memOf (s .args .work0 .now) (s .args .work1 .now) (s .args .checkpoint .now)) (s .pre) .checkpoint-length, c .before .before .before .before .before .before .before .writes .kept .1 .1 .1 .1 .1 .1 .1 .1 .1 .1 .1 .0)
-
-same-length : tie.Need-same-length
-same-length c = search needs
-
-same-length-2 : tie.Need-same-length-2
-same-length-2 c = search needs
-
-same-length-3 : tie.Need-same-length-3
-same-length-3 c = search needs
 
 returns : tie.Need-returns
 returns c =
@@ -95,20 +71,20 @@ pub accepted-spec : {M : Type 1} → statement M
 accepted-spec =
     tie.close
     (tie.spec
-    natural-requires
-    natural-requires-2
-    natural-requires-3
+    (λ c κs. search needs)
+    (λ c κs. search needs)
+    (λ c κs. search needs)
     add-end
     mul-end
     mul-end-2
     slice-read-start
     sub-left
     mul-left
-    least-requires
-    natural-requires-4
+    (λ c κs. search needs)
+    (λ c κs. search needs)
     writes-requires
     slice-read-finished
-    same-length
-    same-length-2
-    same-length-3
+    (λ c. search needs)
+    (λ c. search needs)
+    (λ c. search needs)
     returns)

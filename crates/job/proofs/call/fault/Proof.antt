@@ -32,23 +32,11 @@ high c = rw (toZ-ofZ (start (c .before .before .before .before) .fits .height)) 
 many : (c : tie.After-natural3) → c .natural3 .result ≡ natOf (start (c .before .before .before .before .before) .args .count)
 many c = rw (toZ-ofZ (start (c .before .before .before .before .before) .fits .count)) at (c .natural3 .ensures)
 
-check-requires : tie.Need-check-requires
-check-requires c κs = search needs
-
 returns : tie.Need-returns
 returns c = let s = start (c .before .before) in inputs-fault (inputs (c .before .before)) (memOf (s .args .work0 .now) (s .args .work1 .now) (s .args .checkpoint .now)) (c .before .before .check .result) (found (c .before .before)) (c .if1 .taken)
 
-natural-requires : tie.Need-natural-requires
-natural-requires c κs = search needs
-
-natural-requires-2 : tie.Need-natural-requires-2
-natural-requires-2 c κs = search needs
-
 mul-pixels : tie.Need-mul-pixels
 mul-pixels c = rw (wide (c .before), high c) (omega (arith, pixels-small (inputs (c .before .before .before .before)) (none (c .before .before))))
-
-natural-requires-3 : tie.Need-natural-requires-3
-natural-requires-3 c κs = search needs
 
 add-end : tie.Need-add-end
 add-end c = rw (many c) (omega (arith, layers-small (inputs (c .before .before .before .before .before)) (none (c .before .before .before))))
@@ -68,12 +56,12 @@ pub fault-spec : {M : Type 1} → statement M
 fault-spec =
     tie.close
     (tie.spec
-    check-requires
+    (λ c κs. search needs)
     returns
-    natural-requires
-    natural-requires-2
+    (λ c κs. search needs)
+    (λ c κs. search needs)
     mul-pixels
-    natural-requires-3
+    (λ c κs. search needs)
     add-end
     mul-end
     memory-fault-requires

@@ -22,32 +22,11 @@ found c = let s = start c in rw (toZ-ofZ (s .fits .width), toZ-ofZ (s .fits .hei
 none : (c : tie.Else1) → callFault (inputs (c .before .before)) (let s = start (c .before .before) in memOf (s .args .work0 .now) (s .args .work1 .now) (s .args .checkpoint .now)) .number ≡ 0
 none c = ap (λ (v : Verdict). v .number) (sym (found (c .before .before))) ∙ c .if1 .left
 
-fault-requires : tie.Need-fault-requires
-fault-requires c κs = search needs
-
-same-length : tie.Need-same-length
-same-length c = search needs
-
-same-length-2 : tie.Need-same-length-2
-same-length-2 c = search needs
-
-same-length-3 : tie.Need-same-length-3
-same-length-3 c = search needs
-
 returns : tie.Need-returns
 returns c = let s = start (c .before .before) in call-refused (inputs (c .before .before)) (s .args .allowance) (memOf (s .args .work0 .now) (s .args .work1 .now) (s .args .checkpoint .now)) (c .before .before .fault .result) (found (c .before .before)) (c .if1 .taken)
 
 accepted-requires : tie.Need-accepted-requires
 accepted-requires c κs = let s = start (c .before .before .before .before .before) in rw (toZ-ofZ (s .fits .width), toZ-ofZ (s .fits .height), toZ-ofZ (s .fits .channels), toZ-ofZ (s .fits .count)) (none (c .before .before .before))
-
-same-length-4 : tie.Need-same-length-4
-same-length-4 c = search needs
-
-same-length-5 : tie.Need-same-length-5
-same-length-5 c = search needs
-
-same-length-6 : tie.Need-same-length-6
-same-length-6 c = search needs
 
 returns-2 : tie.Need-returns-2
 returns-2 c =
@@ -58,13 +37,13 @@ pub run-spec : {M : Type 1} → statement M
 run-spec =
     tie.close
     (tie.spec
-    fault-requires
-    same-length
-    same-length-2
-    same-length-3
+    (λ c κs. search needs)
+    (λ c. search needs)
+    (λ c. search needs)
+    (λ c. search needs)
     returns
     accepted-requires
-    same-length-4
-    same-length-5
-    same-length-6
+    (λ c. search needs)
+    (λ c. search needs)
+    (λ c. search needs)
     returns-2)

@@ -17,34 +17,16 @@ widen-requires c κs =
     let n = mul-comm (s .args .channels) (s .args .from + s .args .count) in
     (h .some, h .most, omega (arith, h .dst-length, mul-le-mul-right (s .args .channels) (s .pre .1), n), s .pre .2)
 
-same-length : tie.Need-same-length
-same-length c = search needs
-
 returns : tie.Need-returns
 returns c =
     let s = (c .before .before .before .before .before .before .before .before .before .before) in
     c .before .before .widen .ensures ∙ fill-first (s .args .dst .now) (s .args .channels) (s .args .p) (s .args .source .now) (s .args .k) (s .args .from) (s .args .count) _ (s .args .out .now) (c .before .before .before .before .if1 .taken)
-
-sub-if2 : tie.Need-sub-if2
-sub-if2 c = search needs
-
-span-requires : tie.Need-span-requires
-span-requires c κs = search needs
-
-same-length-2 : tie.Need-same-length-2
-same-length-2 c = search needs
 
 returns-2 : tie.Need-returns-2
 returns-2 c =
     let s = (c .before .before .before .before .before .before .before .before .before .before .before) in
     c .before .before .span .ensures
     ∙ fill-later (s .args .dst .now) (s .args .channels) (s .args .p) (s .args .source .now) (s .args .k) (s .args .from) (s .args .count) _ _ (s .args .out .now) true (c .before .before .before .before .before .if1 .left) (eq-eqb _ _ (c .before .before .before .before .if2 .taken))
-
-span-requires-2 : tie.Need-span-requires-2
-span-requires-2 c κs = search needs
-
-same-length-3 : tie.Need-same-length-3
-same-length-3 c = search needs
 
 returns-3 : tie.Need-returns-3
 returns-3 c =
@@ -57,12 +39,12 @@ fill-spec =
     tie.close
     (tie.spec
     widen-requires
-    same-length
+    (λ c. search needs)
     returns
-    sub-if2
-    span-requires
-    same-length-2
+    (λ c. search needs)
+    (λ c κs. search needs)
+    (λ c. search needs)
     returns-2
-    span-requires-2
-    same-length-3
+    (λ c κs. search needs)
+    (λ c. search needs)
     returns-3)

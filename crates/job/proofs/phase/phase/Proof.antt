@@ -19,24 +19,12 @@ spans-requires c κs =
     let s = (c .before .before .before .before .before .before .before .before) in
     (s .pre .0, s .pre .1, s .pre .4, ahead-first (s .pre .5) (5 * s .args .count) (omega arith))
 
-add-tail : tie.Need-add-tail
-add-tail c = search needs
-
 tail-requires : tie.Need-tail-requires
 tail-requires c κs =
     let s = (c .before .before .before .before .before .before .before .before .before .before .before .before .before .before .before .before .before .before) in
     let m = memOf (s .args .work0 .now) (s .args .work1 .now) (s .args .checkpoint .now) in
     let k = c .before .before .before .before .before .before .before .before .before .spans in
     (whole-still _ _ _ _ _ _ _ _ (s .pre .0) (k .kept .1 .1 .1 .1 .1 .1 .1 .0) (k .kept .1 .1 .1 .1 .1 .1 .1 .1 .0), s .pre .2, s .pre .3, raised-on (s .args .k) _ (s .args .from) (s .args .count) (s .args .count) 0 m _ (s .pre .4) (k .ensures) (omega arith) (omega arith), pixel-ahead (s .args .k) (pixel s) (s .args .from) m (s .pre .5) (s .args .count) (s .args .rest) _ _ (omega arith) (omega (arith, s .pre .2)) (k .ensures) (next-same (s .args .dst .now) (s .args .channels) (s .args .p) (s .args .source .now) (s .args .k) (s .args .from) (s .args .count) m _ (k .ensures)))
-
-same-length : tie.Need-same-length
-same-length c = search needs
-
-same-length-2 : tie.Need-same-length-2
-same-length-2 c = search needs
-
-same-length-3 : tie.Need-same-length-3
-same-length-3 c = search needs
 
 returns : tie.Need-returns
 returns c =
@@ -49,9 +37,9 @@ phase-spec =
     tie.close
     (tie.spec
     spans-requires
-    add-tail
+    (λ c. search needs)
     tail-requires
-    same-length
-    same-length-2
-    same-length-3
+    (λ c. search needs)
+    (λ c. search needs)
+    (λ c. search needs)
     returns)

@@ -5,17 +5,8 @@ use native.Mathlib.Omega.{arith}
 use Rattle.job.proofs.store.channel.Statement.{statement}
 use Rattle.job.proofs.store.channel.Tie as tie
 
-returns : tie.Need-returns
-returns c = search needs
-
-returns-2 : tie.Need-returns-2
-returns-2 c = search needs
-
-returns-3 : tie.Need-returns-3
-returns-3 c = search needs
-
 returns-4 : tie.Need-returns-4
 returns-4 c = let e : (c .before .before .before) .args .c ≡ 3 = omega (arith, c .before .before .if1 .left, c .before .if2 .left, c .if3 .left) in rw e
 
 pub channel-spec : {M : Type 1} → statement M
-channel-spec = tie.close (tie.spec returns returns-2 returns-3 returns-4)
+channel-spec = tie.close (tie.spec (λ c. search needs) (λ c. search needs) (λ c. search needs) returns-4)

@@ -17,17 +17,11 @@ named s w e = subst (InRange (memory s)) e (s .pre .0)
 made : (s : tie.Start) (w : Write) → s .args .w ≡ w → put w (memory s) ≡ put (s .args .w) (memory s)
 made s w e = sym (ap (λ (x : Write). put x (memory s)) e)
 
-enum-known-w : tie.Need-enum-known-w
-enum-known-w c = search needs
-
 mul-work0 : tie.Need-mul-work0
 mul-work0 c = let s = (c .before .before .before) in omega (arith, named s _ (c .before .w .given .1), s .good)
 
 slice-write-work0 : tie.Need-slice-write-work0
 slice-write-work0 c = named (c .before .before .before) _ (c .before .w .given .1)
-
-enum-known-w-2 : tie.Need-enum-known-w-2
-enum-known-w-2 c = search needs
 
 mul-work1 : tie.Need-mul-work1
 mul-work1 c = let s = (c .before .before .before) in omega (arith, named s _ (c .before .w2 .given .1), s .good)
@@ -35,26 +29,14 @@ mul-work1 c = let s = (c .before .before .before) in omega (arith, named s _ (c 
 slice-write-work1 : tie.Need-slice-write-work1
 slice-write-work1 c = named (c .before .before .before) _ (c .before .w2 .given .1)
 
-enum-known-w-3 : tie.Need-enum-known-w-3
-enum-known-w-3 c = search needs
-
 slice-write-checkpoint : tie.Need-slice-write-checkpoint
 slice-write-checkpoint c = named (c .before .before .before) _ (c .before .w3 .given .1)
-
-same-length : tie.Need-same-length
-same-length c = search needs
 
 returns : tie.Need-returns
 returns c = made (c .before .before .before) _ (c .before .w .given .1)
 
-same-length-2 : tie.Need-same-length-2
-same-length-2 c = search needs
-
 returns-2 : tie.Need-returns-2
 returns-2 c = made (c .before .before .before) _ (c .before .w2 .given .1)
-
-same-length-3 : tie.Need-same-length-3
-same-length-3 c = search needs
 
 returns-3 : tie.Need-returns-3
 returns-3 c = made (c .before .before .before) _ (c .before .w3 .given .1)
@@ -63,17 +45,17 @@ pub store-spec : {M : Type 1} → statement M
 store-spec =
     tie.close
     (tie.spec
-    enum-known-w
+    (λ c. search needs)
     mul-work0
     slice-write-work0
-    enum-known-w-2
+    (λ c. search needs)
     mul-work1
     slice-write-work1
-    enum-known-w-3
+    (λ c. search needs)
     slice-write-checkpoint
-    same-length
+    (λ c. search needs)
     returns
-    same-length-2
+    (λ c. search needs)
     returns-2
-    same-length-3
+    (λ c. search needs)
     returns-3)

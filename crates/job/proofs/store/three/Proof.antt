@@ -28,15 +28,6 @@ step-requires-2 c κs = let s = c .before .before .before .before .before .befor
 step-requires-3 : tie.Need-step-requires-3
 step-requires-3 c κs = let s = c .before .before .before .before .before .before .before .before .before .before .before .before .before .before .before .before .before .before .before .before .before .before .before .before .before .before in begun-due (omega arith) (two (c .before .before .before .before .before .before .before .before .before)) (omega arith) (s .pre .0) (s .pre .1)
 
-same-length : tie.Need-same-length
-same-length c = search needs
-
-same-length-2 : tie.Need-same-length-2
-same-length-2 c = search needs
-
-same-length-3 : tie.Need-same-length-3
-same-length-3 c = search needs
-
 returns : tie.Need-returns
 returns c = end (c .before .before .before .before .before .before) .same
 
@@ -47,7 +38,7 @@ three-spec =
     step-requires
     step-requires-2
     step-requires-3
-    same-length
-    same-length-2
-    same-length-3
+    (λ c. search needs)
+    (λ c. search needs)
+    (λ c. search needs)
     returns)

@@ -11,24 +11,6 @@ use Rattle.job.proofs.stretch.source_of.Tie as tie
 mul-last : tie.Need-mul-last
 mul-last c = let s = c .before in omega (arith, mul-le-mul (s .pre .1) (s .pre .2))
 
-mul-last-2 : tie.Need-mul-last-2
-mul-last-2 c = search needs
-
-add-last : tie.Need-add-last
-add-last c = search needs
-
-mul-result : tie.Need-mul-result
-mul-result c = search needs
-
-sub-result : tie.Need-sub-result
-sub-result c = search needs
-
-part-result-start : tie.Need-part-result-start
-part-result-start c = search needs
-
-part-result-end : tie.Need-part-result-end
-part-result-end c = search needs
-
 returns : tie.Need-returns
 returns c =
     let s = c .before .before .before in
@@ -41,10 +23,10 @@ source-of-spec =
     tie.close
     (tie.spec
     mul-last
-    mul-last-2
-    add-last
-    mul-result
-    sub-result
-    part-result-start
-    part-result-end
+    (λ c. search needs)
+    (λ c. search needs)
+    (λ c. search needs)
+    (λ c. search needs)
+    (λ c. search needs)
+    (λ c. search needs)
     returns)

@@ -26,9 +26,6 @@ layer c = let s = c .before .before .before .before .before .before .before .bef
 good : (c : tie.After-at) → GoodLayer (length (c .before .before .before .before .before .before .before .before .args .samples .now)) (c .at .result)
 good c = let s = c .before .before .before .before .before .before .before .before in subst⁻¹ (GoodLayer (length (s .args .samples .now))) (layer c) (s .pre .decodable .layer)
 
-layer-of-requires : tie.Need-layer-of-requires
-layer-of-requires c κs = search needs
-
 at-requires : tie.Need-at-requires
 at-requires c κs = let s = (c .before .before .before .before .before .before .before) in rw (c .layer-of .ensures) (s .pre .decodable .row, s .pre .decodable .words)
 
@@ -44,15 +41,6 @@ phase-requires c κs =
     phase-asks (job s) (s .args .k) (s .args .from) (s .args .count) (s .args .rest) (memory s) (c .before .before .before .before .before .at .result) (c .before .before .before .before .plan .result) _
     (s .pre) (layer (c .before .before .before .before .before)) (c .before .before .before .before .plan .ensures .0) (c .before .before .before .source-of .ensures) (good (c .before .before .before .before .before)) (c .before .before .before .before .plan .ensures .1)
 
-same-length : tie.Need-same-length
-same-length c = search needs
-
-same-length-2 : tie.Need-same-length-2
-same-length-2 c = search needs
-
-same-length-3 : tie.Need-same-length-3
-same-length-3 c = search needs
-
 returns : tie.Need-returns
 returns c =
     let s = (c .before .before .before .before .before .before .before .before .before .before .before .before .before .before .before .before .before .before .before .before) in
@@ -63,12 +51,12 @@ pub stretch-spec : {M : Type 1} → statement M
 stretch-spec =
     tie.close
     (tie.spec
-    layer-of-requires
+    (λ c κs. search needs)
     at-requires
     plan-requires
     source-of-requires
     phase-requires
-    same-length
-    same-length-2
-    same-length-3
+    (λ c. search needs)
+    (λ c. search needs)
+    (λ c. search needs)
     returns)

@@ -3,18 +3,6 @@ use borrow.Author.Needs.{needs}
 use Rattle.layers.proofs.ChannelMask.of.Statement.{statement}
 use Rattle.layers.proofs.ChannelMask.of.Tie as tie
 
-flag-requires : tie.Need-flag-requires
-flag-requires c κs = search needs
-
-flag-requires-2 : tie.Need-flag-requires-2
-flag-requires-2 c κs = search needs
-
-flag-requires-3 : tie.Need-flag-requires-3
-flag-requires-3 c κs = search needs
-
-flag-requires-4 : tie.Need-flag-requires-4
-flag-requires-4 c κs = search needs
-
 returns : tie.Need-returns
 returns c =
     rw (
@@ -26,4 +14,4 @@ returns c =
 
 pub of-spec : {M : Type 1} → statement M
 of-spec =
-    tie.close (tie.spec flag-requires flag-requires-2 flag-requires-3 flag-requires-4 returns)
+    tie.close (tie.spec (λ c κs. search needs) (λ c κs. search needs) (λ c κs. search needs) (λ c κs. search needs) returns)

@@ -28,22 +28,13 @@ source c = sym (c .before .bad-source .ensures) ∙ c .if4 .left
 arguments : (c : tie.After-outside-at2) → c .outside-at2 .result ≡ outsideZ (pos 0) (pos argWords) (cellOf (c .before .before .before .before .before .before .before .before .before .args .table .now) (c .before .before .before .before .before .before .before .before .before .args .k) atCount)
 arguments c = c .outside-at2 .ensures
 
-operator-fault-requires : tie.Need-operator-fault-requires
-operator-fault-requires c κs = search needs
-
 returns : tie.Need-returns
 unfolding layerFault
 returns c = rw (← c .before .operator-fault .ensures, ne-eqb _ _ (c .if1 .taken))
 
-bad-placing-requires : tie.Need-bad-placing-requires
-bad-placing-requires c κs = search needs
-
 returns-2 : tie.Need-returns-2
 unfolding layerFault
 returns-2 c = rw (operator (c .before .before), ← c .before .bad-placing .ensures, c .if2 .taken)
-
-outside-at-requires : tie.Need-outside-at-requires
-outside-at-requires c κs = search needs
 
 returns-3 : tie.Need-returns-3
 unfolding layerFault
@@ -51,21 +42,12 @@ returns-3 c =
     let p = c .before .before in
     rw (operator (p .before .before), placing p, ← c .before .outside-at .ensures, c .if3 .taken)
 
-bad-source-requires : tie.Need-bad-source-requires
-bad-source-requires c κs = search needs
-
 returns-4 : tie.Need-returns-4
 unfolding layerFault
 returns-4 c =
     let q = c .before .before in
     let p = q .before .before in
     rw (operator (p .before .before), placing p, flags q, ← c .before .bad-source .ensures, c .if4 .taken)
-
-cast-outside-at : tie.Need-cast-outside-at
-cast-outside-at c = search needs
-
-outside-at-requires-2 : tie.Need-outside-at-requires-2
-outside-at-requires-2 c κs = search needs
 
 returns-5 : tie.Need-returns-5
 unfolding layerFault
@@ -87,15 +69,15 @@ pub fault-spec : {M : Type 1} → statement M
 fault-spec =
     tie.close
     (tie.spec
-    operator-fault-requires
+    (λ c κs. search needs)
     returns
-    bad-placing-requires
+    (λ c κs. search needs)
     returns-2
-    outside-at-requires
+    (λ c κs. search needs)
     returns-3
-    bad-source-requires
+    (λ c κs. search needs)
     returns-4
-    cast-outside-at
-    outside-at-requires-2
+    (λ c. search needs)
+    (λ c κs. search needs)
     returns-5
     returns-6)

@@ -13,21 +13,6 @@ use Rattle.layers.proofs.Layer.operator_fault.Tie as tie
 named : (c : tie.After-from-number) → c .from-number .result ≡ opOf (cellOf (c .before .before .args .table .now) (c .before .before .args .k) atOperator)
 named c = c .from-number .ensures ∙ ap opOf (toZ-ofZ (sfits-of (c .before .cell .ok)) ∙ c .before .cell .ensures)
 
-cell-requires : tie.Need-cell-requires
-cell-requires c κs = search needs
-
-from-number-requires : tie.Need-from-number-requires
-from-number-requires c κs = search needs
-
-enum-told : tie.Need-enum-told
-enum-told c = search needs
-
-enum-told-2 : tie.Need-enum-told-2
-enum-told-2 c = search needs
-
-enum-told-3 : tie.Need-enum-told-3
-enum-told-3 c = search needs
-
 returns : tie.Need-returns
 returns c = ap opFault (sym (c .enum-told .given .1) ∙ named (c .before .before))
 
@@ -41,11 +26,11 @@ pub operator-fault-spec : {M : Type 1} → statement M
 operator-fault-spec =
     tie.close
     (tie.spec
-    cell-requires
-    from-number-requires
-    enum-told
-    enum-told-2
-    enum-told-3
+    (λ c κs. search needs)
+    (λ c κs. search needs)
+    (λ c. search needs)
+    (λ c. search needs)
+    (λ c. search needs)
     returns
     returns-2
     returns-3)

@@ -23,15 +23,6 @@ deep c = rw (toZ-ofZ (start c .fits .channels)) at (c .natural3 .ensures)
 shape : (c : tie.After-natural3) → Shaped (start c .args .width) (start c .args .height) (start c .args .channels)
 shape c = shaped _ _ _ (start c .pre)
 
-natural-requires : tie.Need-natural-requires
-natural-requires c κs = search needs
-
-natural-requires-2 : tie.Need-natural-requires-2
-natural-requires-2 c κs = search needs
-
-natural-requires-3 : tie.Need-natural-requires-3
-natural-requires-3 c κs = search needs
-
 mul-result : tie.Need-mul-result
 mul-result c = record { fits = omega (arith, plane-as (wide c) (high c), plane-most _ _ _ (shape c)) }
 
@@ -45,9 +36,9 @@ pub area-spec : {M : Type 1} → statement M
 area-spec =
     tie.close
     (tie.spec
-    natural-requires
-    natural-requires-2
-    natural-requires-3
+    (λ c κs. search needs)
+    (λ c κs. search needs)
+    (λ c κs. search needs)
     mul-result
     mul-result-2
     returns)

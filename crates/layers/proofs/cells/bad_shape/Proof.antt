@@ -14,22 +14,13 @@ wide c = rw (toZ-ofZ (c .before .fits .width)) at (c .outside .ensures)
 high : (c : tie.After-outside2) → c .outside2 .result ≡ outsideZ (pos 0) (pos mostSide) (c .before .before .before .args .height)
 high c = rw (toZ-ofZ (c .before .before .before .fits .height)) at (c .outside2 .ensures)
 
-outside-requires : tie.Need-outside-requires
-outside-requires c κs = search needs
-
 returns : tie.Need-returns
 unfolding badShape
 returns c = rw (← wide (c .before), c .if1 .taken)
 
-outside-requires-2 : tie.Need-outside-requires-2
-outside-requires-2 c κs = search needs
-
 returns-2 : tie.Need-returns-2
 unfolding badShape
 returns-2 c = rw (← wide (c .before .before .before), c .before .before .if1 .left, ← high (c .before), c .if2 .taken)
-
-bad-channels-requires : tie.Need-bad-channels-requires
-bad-channels-requires c κs = search needs
 
 returns-3 : tie.Need-returns-3
 unfolding badShape
@@ -41,9 +32,9 @@ pub bad-shape-spec : {M : Type 1} → statement M
 bad-shape-spec =
     tie.close
     (tie.spec
-    outside-requires
+    (λ c κs. search needs)
     returns
-    outside-requires-2
+    (λ c κs. search needs)
     returns-2
-    bad-channels-requires
+    (λ c κs. search needs)
     returns-3)

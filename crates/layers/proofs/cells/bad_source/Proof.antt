@@ -50,31 +50,13 @@ area c =
 from : (c : tie.After-natural) → c .natural .result ≡ natOf (cellOf (start (c .before .before) .args .table .now) (start (c .before .before) .args .k) atFirst)
 from c = c .natural .ensures ∙ ap natOf (first (c .before .before .before .before .before .before .before))
 
-cell-requires : tie.Need-cell-requires
-cell-requires c κs = search needs
-
 returns : tie.Need-returns
 unfolding badSource
 returns c = rw (ap (λ (z : ℤ). ltZ z (pos 0)) (sym (first (c .before))) ∙ c .if1 .taken)
 
-cell-requires-2 : tie.Need-cell-requires-2
-cell-requires-2 c κs = search needs
-
-cell-requires-3 : tie.Need-cell-requires-3
-cell-requires-3 c κs = search needs
-
-cell-requires-4 : tie.Need-cell-requires-4
-cell-requires-4 c κs = search needs
-
-bad-shape-requires : tie.Need-bad-shape-requires
-bad-shape-requires c κs = search needs
-
 returns-2 : tie.Need-returns-2
 unfolding badSource
 returns-2 c = rw (not-negative (c .before .before .before .before .before), ← shape (c .before), c .if2 .taken)
-
-natural-requires : tie.Need-natural-requires
-natural-requires c κs = search needs
 
 area-requires : tie.Need-area-requires
 area-requires c κs =
@@ -109,14 +91,14 @@ pub bad-source-spec : {M : Type 1} → statement M
 bad-source-spec =
     tie.close
     (tie.spec
-    cell-requires
+    (λ c κs. search needs)
     returns
-    cell-requires-2
-    cell-requires-3
-    cell-requires-4
-    bad-shape-requires
+    (λ c κs. search needs)
+    (λ c κs. search needs)
+    (λ c κs. search needs)
+    (λ c κs. search needs)
     returns-2
-    natural-requires
+    (λ c κs. search needs)
     area-requires
     add-result
     returns-3)

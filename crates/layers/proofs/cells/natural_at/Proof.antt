@@ -13,14 +13,8 @@ use Rattle.layers.proofs.cells.natural_at.Tie as tie
 read : (c : tie.After-cell) → toZ w64 (ofZ w64 (c .cell .result)) ≡ cellOf (c .before .args .table .now) (c .before .args .k) (c .before .args .column)
 read c = toZ-ofZ (sfits-of (c .cell .ok)) ∙ c .cell .ensures
 
-cell-requires : tie.Need-cell-requires
-cell-requires c κs = search needs
-
-natural-requires : tie.Need-natural-requires
-natural-requires c κs = search needs
-
 returns : tie.Need-returns
 returns c = c .natural .ensures ∙ ap natOf (read (c .before))
 
 pub natural-at-spec : {M : Type 1} → statement M
-natural-at-spec = tie.close (tie.spec cell-requires natural-requires returns)
+natural-at-spec = tie.close (tie.spec (λ c κs. search needs) (λ c κs. search needs) returns)

@@ -14,12 +14,6 @@ use Rattle.layers.proofs.cells.outside_at.Tie as tie
 read : (c : tie.After-cell) → toZ w64 (ofZ w64 (c .cell .result)) ≡ cellOf (c .before .args .table .now) (c .before .args .k) (c .before .args .column)
 read c = toZ-ofZ (sfits-of (c .cell .ok)) ∙ c .cell .ensures
 
-cell-requires : tie.Need-cell-requires
-cell-requires c κs = search needs
-
-outside-requires : tie.Need-outside-requires
-outside-requires c κs = search needs
-
 returns : tie.Need-returns
 returns c =
     let s = c .before .before in
@@ -27,4 +21,4 @@ returns c =
     ∙ ap (λ (z : ℤ). outsideZ (s .args .lo) (s .args .hi) z) (read (c .before))
 
 pub outside-at-spec : {M : Type 1} → statement M
-outside-at-spec = tie.close (tie.spec cell-requires outside-requires returns)
+outside-at-spec = tie.close (tie.spec (λ c κs. search needs) (λ c κs. search needs) returns)

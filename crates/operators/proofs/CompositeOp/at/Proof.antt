@@ -8,9 +8,6 @@ use Rattle.operators.specs.declared.CompositeOp.the-variants.{Over}
 use Rattle.operators.proofs.CompositeOp.at.Statement.{statement}
 use Rattle.operators.proofs.CompositeOp.at.Tie as tie
 
-array-copy-out-result : tie.Need-array-copy-out-result
-array-copy-out-result c = search needs
-
 returns : tie.Need-returns
 returns c = getD-any _ Over operators (c .before .before .args .n) (c .before .if1 .taken)
 
@@ -18,4 +15,4 @@ returns-2 : tie.Need-returns-2
 returns-2 c = sym (List·getD-eq-default operators Over {n = c .before .args .n} (c .if1 .left))
 
 pub at-spec : {M : Type 1} → statement M
-at-spec = tie.close (tie.spec array-copy-out-result returns returns-2)
+at-spec = tie.close (tie.spec (λ c. search needs) returns returns-2)

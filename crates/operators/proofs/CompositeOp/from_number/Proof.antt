@@ -30,9 +30,6 @@ returns-3 c = curve _ _ (here (c .before .before)) Interpolate (rw (toZ-ofZ (c .
 returns-4 : tie.Need-returns-4
 returns-4 c = curve _ _ (here (c .before .before .before)) Blur (rw (toZ-ofZ (c .before .before .before .before .fits .n)) at (c .if4 .taken)) refl
 
-at-requires : tie.Need-at-requires
-at-requires c κs = search needs
-
 returns-5 : tie.Need-returns-5
 returns-5 c =
     let a = c .before .before .before in
@@ -42,4 +39,4 @@ returns-5 c =
 
 pub from-number-spec : {M : Type 1} → statement M
 from-number-spec =
-    tie.close (tie.spec returns cast-k returns-2 returns-3 returns-4 at-requires returns-5)
+    tie.close (tie.spec returns cast-k returns-2 returns-3 returns-4 (λ c κs. search needs) returns-5)

@@ -6,9 +6,6 @@ use borrow.Author.Tests.{eq-eqb, ne-eqb}
 use Rattle.operators.proofs.CompositeOp.is_map.Statement.{statement}
 use Rattle.operators.proofs.CompositeOp.is_map.Tie as tie
 
-number-requires : tie.Need-number-requires
-number-requires c κs = search needs
-
 returns : tie.Need-returns
 returns c = rw (← c .before .number .ensures, eq-eqb _ _ (c .if1 .taken))
 
@@ -19,4 +16,4 @@ returns-3 : tie.Need-returns-3
 returns-3 c = rw (← c .before .before .number .ensures, ne-eqb _ _ (c .before .if1 .left), ne-eqb _ _ (c .if2 .left)) (sym (or-false _))
 
 pub is-map-spec : {M : Type 1} → statement M
-is-map-spec = tie.close (tie.spec number-requires returns returns-2 returns-3)
+is-map-spec = tie.close (tie.spec (λ c κs. search needs) returns returns-2 returns-3)

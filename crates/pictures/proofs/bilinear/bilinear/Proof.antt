@@ -5,19 +5,10 @@ use borrow.Author.Needs.{needs}
 use Rattle.pictures.proofs.bilinear.bilinear.Statement.{statement}
 use Rattle.pictures.proofs.bilinear.bilinear.Tie as tie
 
-locate-requires : tie.Need-locate-requires
-locate-requires c κs = search needs
-
-locate-requires-2 : tie.Need-locate-requires-2
-locate-requires-2 c κs = search needs
-
 neighbours-requires : tie.Need-neighbours-requires
 neighbours-requires c κs =
     let p = c .before .before .before .pre in
     in-picture _ _ _ _ _ _ _ _ (p .0) (p .1) (p .2) (p .3) (p .4) (c .before .locate .ensures) (c .locate2 .ensures)
-
-mix-requires : tie.Need-mix-requires
-mix-requires c κs = search needs
 
 returns : tie.Need-returns
 unfolding bilinearOf
@@ -25,4 +16,4 @@ returns c = rw (c .mix .ensures, c .before .neighbours .ensures, c .before .befo
 
 pub bilinear-spec : {M : Type 1} → statement M
 bilinear-spec =
-    tie.close (tie.spec locate-requires locate-requires-2 neighbours-requires mix-requires returns)
+    tie.close (tie.spec (λ c κs. search needs) (λ c κs. search needs) neighbours-requires (λ c κs. search needs) returns)

@@ -37,9 +37,6 @@ rgba-at-requires c κs =
 put-requires : tie.Need-put-requires Inv-loop μ-loop
 put-requires c κs = omega (arith, c .before .before .before .loop .inv .2)
 
-add-i : tie.Need-add-i Inv-loop μ-loop
-add-i c = search needs
-
 loop-less : tie.Need-loop-less Inv-loop μ-loop
 loop-less c = omega arith
 
@@ -69,7 +66,7 @@ widen-spec =
     add-rgba-at
     rgba-at-requires
     put-requires
-    add-i
+    (λ c. search needs)
     loop-less
     loop-again
     same-length

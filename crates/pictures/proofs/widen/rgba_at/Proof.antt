@@ -7,25 +7,13 @@ use borrow.Author.Needs.{needs}
 use Rattle.pictures.proofs.widen.rgba_at.Statement.{statement}
 use Rattle.pictures.proofs.widen.rgba_at.Tie as tie
 
-mul-at : tie.Need-mul-at
-mul-at c = search needs
-
-four-at-requires : tie.Need-four-at-requires
-four-at-requires c κs = search needs
-
 returns : tie.Need-returns
 unfolding rgbaAt
 returns c = c .four-at .ensures ∙ yes _ _ (eq-eqb _ _ (c .before .if1 .taken))
 
-three-at-requires : tie.Need-three-at-requires
-three-at-requires c κs = search needs
-
 returns-2 : tie.Need-returns-2
 unfolding rgbaAt
 returns-2 c = c .three-at .ensures ∙ yes _ _ (eq-eqb _ _ (c .before .if2 .taken)) ∙ no _ _ (ne-eqb _ _ (c .before .before .if1 .left))
-
-one-at-requires : tie.Need-one-at-requires
-one-at-requires c κs = search needs
 
 returns-3 : tie.Need-returns-3
 unfolding rgbaAt
@@ -35,10 +23,10 @@ pub rgba-at-spec : {M : Type 1} → statement M
 rgba-at-spec =
     tie.close
     (tie.spec
-    mul-at
-    four-at-requires
+    (λ c. search needs)
+    (λ c κs. search needs)
     returns
-    three-at-requires
+    (λ c κs. search needs)
     returns-2
-    one-at-requires
+    (λ c κs. search needs)
     returns-3)

@@ -3,11 +3,8 @@ use borrow.Author.Needs.{needs}
 use Rattle.pixels.proofs.colours.bumpmap.Statement.{statement}
 use Rattle.pixels.proofs.colours.bumpmap.Tie as tie
 
-intensity-requires : tie.Need-intensity-requires
-intensity-requires c κs = search needs
-
 returns : tie.Need-returns
 returns c = rw (c .before .before .before .intensity .ensures)
 
 pub bumpmap-spec : {M : Type 1} → statement M
-bumpmap-spec = tie.close (tie.spec intensity-requires returns)
+bumpmap-spec = tie.close (tie.spec (λ c κs. search needs) returns)

@@ -5,9 +5,6 @@ use borrow.Author.Needs.{needs}
 use Rattle.pixels.proofs.colours.change_mask.Statement.{statement}
 use Rattle.pixels.proofs.colours.change_mask.Tie as tie
 
-matching-requires : tie.Need-matching-requires
-matching-requires c κs = search needs
-
 returns : tie.Need-returns
 unfolding changeMaskOf
 returns c = rw (← c .before .matching .ensures) (yes _ _ (c .if1 .taken))
@@ -17,4 +14,4 @@ unfolding changeMaskOf
 returns-2 c = rw (← c .before .matching .ensures) (no _ _ (c .if1 .left))
 
 pub change-mask-spec : {M : Type 1} → statement M
-change-mask-spec = tie.close (tie.spec matching-requires returns returns-2)
+change-mask-spec = tie.close (tie.spec (λ c κs. search needs) returns returns-2)

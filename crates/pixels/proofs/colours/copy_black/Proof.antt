@@ -3,14 +3,8 @@ use borrow.Author.Needs.{needs}
 use Rattle.pixels.proofs.colours.copy_black.Statement.{statement}
 use Rattle.pixels.proofs.colours.copy_black.Tie as tie
 
-intensity-requires : tie.Need-intensity-requires
-intensity-requires c κs = search needs
-
-gray-requires : tie.Need-gray-requires
-gray-requires c κs = search needs
-
 returns : tie.Need-returns
 returns c = rw (c .gray .ensures, c .before .intensity .ensures)
 
 pub copy-black-spec : {M : Type 1} → statement M
-copy-black-spec = tie.close (tie.spec intensity-requires gray-requires returns)
+copy-black-spec = tie.close (tie.spec (λ c κs. search needs) (λ c κs. search needs) returns)

@@ -3,18 +3,9 @@ use borrow.Author.Needs.{needs}
 use Rattle.pixels.proofs.colours.intensity_of.Statement.{statement}
 use Rattle.pixels.proofs.colours.intensity_of.Tie as tie
 
-intensity-requires : tie.Need-intensity-requires
-intensity-requires c κs = search needs
-
-over-alpha-requires : tie.Need-over-alpha-requires
-over-alpha-requires c κs = search needs
-
-gray-requires : tie.Need-gray-requires
-gray-requires c κs = search needs
-
 returns : tie.Need-returns
 returns c = rw (c .gray .ensures, c .before .over-alpha .ensures, c .before .before .intensity .ensures)
 
 pub intensity-of-spec : {M : Type 1} → statement M
 intensity-of-spec =
-    tie.close (tie.spec intensity-requires over-alpha-requires gray-requires returns)
+    tie.close (tie.spec (λ c κs. search needs) (λ c κs. search needs) (λ c κs. search needs) returns)

@@ -3,18 +3,6 @@ use borrow.Author.Needs.{needs}
 use Rattle.pixels.proofs.colours.matching.Statement.{statement}
 use Rattle.pixels.proofs.colours.matching.Tie as tie
 
-within-fuzz-requires : tie.Need-within-fuzz-requires
-within-fuzz-requires c κs = search needs
-
-within-fuzz-requires-2 : tie.Need-within-fuzz-requires-2
-within-fuzz-requires-2 c κs = search needs
-
-within-fuzz-requires-3 : tie.Need-within-fuzz-requires-3
-within-fuzz-requires-3 c κs = search needs
-
-within-fuzz-requires-4 : tie.Need-within-fuzz-requires-4
-within-fuzz-requires-4 c κs = search needs
-
 returns : tie.Need-returns
 returns c = rw (← c .before .before .before .before .before .before .within-fuzz .ensures, ← c .before .before .before .before .within-fuzz2 .ensures, ← c .before .before .within-fuzz3 .ensures, ← c .within-fuzz4 .ensures, c .before .before .before .before .before .if1 .taken, c .before .before .before .if2 .taken, c .before .if3 .taken)
 
@@ -31,10 +19,10 @@ pub matching-spec : {M : Type 1} → statement M
 matching-spec =
     tie.close
     (tie.spec
-    within-fuzz-requires
-    within-fuzz-requires-2
-    within-fuzz-requires-3
-    within-fuzz-requires-4
+    (λ c κs. search needs)
+    (λ c κs. search needs)
+    (λ c κs. search needs)
+    (λ c κs. search needs)
     returns
     returns-2
     returns-3

@@ -5,9 +5,6 @@ use borrow.Author.Needs.{needs}
 use Rattle.pixels.proofs.colours.threshold_channel.Statement.{statement}
 use Rattle.pixels.proofs.colours.threshold_channel.Tie as tie
 
-abs-requires : tie.Need-abs-requires
-abs-requires c κs = search needs
-
 returns : tie.Need-returns
 unfolding thresholdChannel
 returns c = rw (← c .before .abs .ensures) (yes _ _ (c .if1 .taken))
@@ -17,4 +14,4 @@ unfolding thresholdChannel
 returns-2 c = rw (← c .before .abs .ensures) (no _ _ (c .if1 .left))
 
 pub threshold-channel-spec : {M : Type 1} → statement M
-threshold-channel-spec = tie.close (tie.spec abs-requires returns returns-2)
+threshold-channel-spec = tie.close (tie.spec (λ c κs. search needs) returns returns-2)

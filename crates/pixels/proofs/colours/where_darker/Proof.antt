@@ -5,12 +5,6 @@ use borrow.Author.Needs.{needs}
 use Rattle.pixels.proofs.colours.where_darker.Statement.{statement}
 use Rattle.pixels.proofs.colours.where_darker.Tie as tie
 
-intensity-requires : tie.Need-intensity-requires
-intensity-requires c κs = search needs
-
-intensity-requires-2 : tie.Need-intensity-requires-2
-intensity-requires-2 c κs = search needs
-
 returns : tie.Need-returns
 unfolding whereDarker
 returns c = rw (← c .before .before .before .before .intensity .ensures, ← c .before .before .intensity2 .ensures) (yes _ _ (c .if1 .taken))
@@ -21,4 +15,4 @@ returns-2 c = rw (← c .before .before .before .before .intensity .ensures, ←
 
 pub where-darker-spec : {M : Type 1} → statement M
 where-darker-spec =
-    tie.close (tie.spec intensity-requires intensity-requires-2 returns returns-2)
+    tie.close (tie.spec (λ c κs. search needs) (λ c κs. search needs) returns returns-2)

@@ -7,13 +7,10 @@ use Rattle.pixels.specs.Blend.{blendOf}
 use Rattle.pixels.proofs.mathematical.blend_inner.Statement.{statement}
 use Rattle.pixels.proofs.mathematical.blend_inner.Tie as tie
 
-blend-arm-requires : tie.Need-blend-arm-requires
-blend-arm-requires c κs = search needs
-
 returns : tie.Need-returns
 returns c =
     let a = c .before .args in
     c .blend-arm .ensures .1 ∙ ap (λ f. f (a .p) (a .s) (a .d)) (at-place (λ p s d. s) blendOf operators (c .blend-arm .result .0) (a .op) (c .blend-arm .ensures .0))
 
 pub blend-inner-spec : {M : Type 1} → statement M
-blend-inner-spec = tie.close (tie.spec blend-arm-requires returns)
+blend-inner-spec = tie.close (tie.spec (λ c κs. search needs) returns)

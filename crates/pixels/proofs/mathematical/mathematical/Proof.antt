@@ -3,14 +3,8 @@ use borrow.Author.Needs.{needs}
 use Rattle.pixels.proofs.mathematical.mathematical.Statement.{statement}
 use Rattle.pixels.proofs.mathematical.mathematical.Tie as tie
 
-over-alpha-requires : tie.Need-over-alpha-requires
-over-alpha-requires c κs = search needs
-
-beside-alpha-requires : tie.Need-beside-alpha-requires
-beside-alpha-requires c κs = search needs
-
 returns : tie.Need-returns
 returns c = rw (c .beside-alpha .ensures, c .before .over-alpha .ensures)
 
 pub mathematical-spec : {M : Type 1} → statement M
-mathematical-spec = tie.close (tie.spec over-alpha-requires beside-alpha-requires returns)
+mathematical-spec = tie.close (tie.spec (λ c κs. search needs) (λ c κs. search needs) returns)

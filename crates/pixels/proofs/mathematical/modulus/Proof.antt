@@ -3,14 +3,8 @@ use borrow.Author.Needs.{needs}
 use Rattle.pixels.proofs.mathematical.modulus.Statement.{statement}
 use Rattle.pixels.proofs.mathematical.modulus.Tie as tie
 
-wrap-requires : tie.Need-wrap-requires
-wrap-requires c κs = search needs
-
-beside-alpha-requires : tie.Need-beside-alpha-requires
-beside-alpha-requires c κs = search needs
-
 returns : tie.Need-returns
 returns c = rw (c .beside-alpha .ensures, c .before .wrap .ensures)
 
 pub modulus-spec : {M : Type 1} → statement M
-modulus-spec = tie.close (tie.spec wrap-requires beside-alpha-requires returns)
+modulus-spec = tie.close (tie.spec (λ c κs. search needs) (λ c κs. search needs) returns)

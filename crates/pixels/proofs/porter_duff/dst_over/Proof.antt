@@ -3,14 +3,8 @@ use borrow.Author.Needs.{needs}
 use Rattle.pixels.proofs.porter_duff.dst_over.Statement.{statement}
 use Rattle.pixels.proofs.porter_duff.dst_over.Tie as tie
 
-over-requires : tie.Need-over-requires
-over-requires c κs = search needs
-
-kept-where-clear-requires : tie.Need-kept-where-clear-requires
-kept-where-clear-requires c κs = search needs
-
 returns : tie.Need-returns
 returns c = rw (c .kept-where-clear .ensures, c .before .over .ensures)
 
 pub dst-over-spec : {M : Type 1} → statement M
-dst-over-spec = tie.close (tie.spec over-requires kept-where-clear-requires returns)
+dst-over-spec = tie.close (tie.spec (λ c κs. search needs) (λ c κs. search needs) returns)

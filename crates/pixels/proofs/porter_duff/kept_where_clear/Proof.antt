@@ -6,9 +6,6 @@ use borrow.Author.Needs.{needs}
 use Rattle.pixels.proofs.porter_duff.kept_where_clear.Statement.{statement}
 use Rattle.pixels.proofs.porter_duff.kept_where_clear.Tie as tie
 
-with-alpha-requires : tie.Need-with-alpha-requires
-with-alpha-requires c κs = search needs
-
 returns : tie.Need-returns
 unfolding keptWhereClear
 returns c = c .with-alpha .ensures ∙ yes _ _ (c .before .if1 .taken)
@@ -18,4 +15,4 @@ unfolding keptWhereClear
 returns-2 c = no _ _ (c .if1 .left)
 
 pub kept-where-clear-spec : {M : Type 1} → statement M
-kept-where-clear-spec = tie.close (tie.spec with-alpha-requires returns returns-2)
+kept-where-clear-spec = tie.close (tie.spec (λ c κs. search needs) returns returns-2)

@@ -6,21 +6,9 @@ use borrow.Author.Needs.{needs}
 use Rattle.pixels.proofs.porter_duff.over_by.Statement.{statement}
 use Rattle.pixels.proofs.porter_duff.over_by.Tie as tie
 
-with-alpha-requires : tie.Need-with-alpha-requires
-with-alpha-requires c κs = search needs
-
 returns : tie.Need-returns
 unfolding overBy
 returns c = c .with-alpha .ensures ∙ yes _ _ (c .before .if1 .taken)
-
-over-channel-requires : tie.Need-over-channel-requires
-over-channel-requires c κs = search needs
-
-over-channel-requires-2 : tie.Need-over-channel-requires-2
-over-channel-requires-2 c κs = search needs
-
-over-channel-requires-3 : tie.Need-over-channel-requires-3
-over-channel-requires-3 c κs = search needs
 
 returns-2 : tie.Need-returns-2
 unfolding overBy
@@ -30,9 +18,9 @@ pub over-by-spec : {M : Type 1} → statement M
 over-by-spec =
     tie.close
     (tie.spec
-    with-alpha-requires
+    (λ c κs. search needs)
     returns
-    over-channel-requires
-    over-channel-requires-2
-    over-channel-requires-3
+    (λ c κs. search needs)
+    (λ c κs. search needs)
+    (λ c κs. search needs)
     returns-2)

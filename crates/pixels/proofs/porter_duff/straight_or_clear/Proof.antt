@@ -10,12 +10,9 @@ returns : tie.Need-returns
 unfolding straightOrClearOf
 returns c = yes _ _ (c .if1 .taken)
 
-with-alpha-requires : tie.Need-with-alpha-requires
-with-alpha-requires c κs = search needs
-
 returns-2 : tie.Need-returns-2
 unfolding straightOrClearOf
 returns-2 c = c .with-alpha .ensures ∙ no _ _ (c .before .if1 .left)
 
 pub straight-or-clear-spec : {M : Type 1} → statement M
-straight-or-clear-spec = tie.close (tie.spec returns with-alpha-requires returns-2)
+straight-or-clear-spec = tie.close (tie.spec returns (λ c κs. search needs) returns-2)

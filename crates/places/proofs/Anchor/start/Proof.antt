@@ -26,29 +26,11 @@ gap-is c =
     let g = gap-near (s .args .dst) (s .args .src) (s .pre .0) (s .pre .1) in
     back-as (c .gap2 .ensures) (omega arith)
 
-enum-told : tie.Need-enum-told
-enum-told c = search needs
-
-enum-told-2 : tie.Need-enum-told-2
-enum-told-2 c = search needs
-
-gap-requires : tie.Need-gap-requires
-gap-requires c κs = search needs
-
-half-requires : tie.Need-half-requires
-half-requires c κs = search needs
-
 sum-requires : tie.Need-sum-requires
 sum-requires c κs =
     let s = c .before .before .before .before in
     let h = half-near (s .args .dst) (s .args .src) (s .pre .0) (s .pre .1) in
     rw (half-is c, toZ-ofZ (s .fits .offset)) (omega arith, omega arith)
-
-enum-told-3 : tie.Need-enum-told-3
-enum-told-3 c = search needs
-
-gap-requires-2 : tie.Need-gap-requires-2
-gap-requires-2 c κs = search needs
 
 sum-requires-2 : tie.Need-sum-requires-2
 sum-requires-2 c κs =
@@ -79,13 +61,13 @@ pub start-spec : {M : Type 1} → statement M
 start-spec =
     tie.close
     (tie.spec
-    enum-told
-    enum-told-2
-    gap-requires
-    half-requires
+    (λ c. search needs)
+    (λ c. search needs)
+    (λ c κs. search needs)
+    (λ c κs. search needs)
     sum-requires
-    enum-told-3
-    gap-requires-2
+    (λ c. search needs)
+    (λ c κs. search needs)
     sum-requires-2
     returns
     returns-2

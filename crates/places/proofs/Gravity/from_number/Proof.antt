@@ -9,9 +9,6 @@ use Rattle.places.specs.declared.Gravity.the-variants.{Unset}
 use Rattle.places.proofs.Gravity.from_number.Statement.{statement}
 use Rattle.places.proofs.Gravity.from_number.Tie as tie
 
-array-copy-out-result : tie.Need-array-copy-out-result
-array-copy-out-result c = search needs
-
 returns : tie.Need-returns
 unfolding gravityAt
 returns c = getD-any _ Unset gravities (c .before .before .args .n) (omega (arith, c .before .if1 .taken))
@@ -21,4 +18,4 @@ unfolding gravityAt
 returns-2 c = sym (List·getD-eq-default gravities Unset {n = c .before .args .n} (c .if1 .left))
 
 pub from-number-spec : {M : Type 1} → statement M
-from-number-spec = tie.close (tie.spec array-copy-out-result returns returns-2)
+from-number-spec = tie.close (tie.spec (λ c. search needs) returns returns-2)

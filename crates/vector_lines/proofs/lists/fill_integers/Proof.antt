@@ -21,21 +21,12 @@ loop-holds c =
     let start = no-integer (s .line .now) (s .from) (s .list .now) in
     (omega arith, start .0, start .1)
 
-signed-requires : tie.Need-signed-requires Inv-loop μ-loop
-signed-requires c κs = search needs
-
-mul-z : tie.Need-mul-z Inv-loop μ-loop
-mul-z c = search needs
-
 slice-set-from-z : tie.Need-slice-set-from-z Inv-loop μ-loop
 slice-set-from-z c =
     let l = c .before .before .before in
     let s = l .before .before .args in
     let long = integer-room (s .line .now) (s .from) (s .list .now) (l .loop .i) (l .loop .list) (l .loop .inv .2) in
     omega (arith, long)
-
-add-i : tie.Need-add-i Inv-loop μ-loop
-add-i c = search needs
 
 loop-less : tie.Need-loop-less Inv-loop μ-loop
 loop-less c = omega arith
@@ -68,10 +59,10 @@ fill-integers-spec =
     Inv-loop
     μ-loop
     loop-holds
-    signed-requires
-    mul-z
+    (λ c κs. search needs)
+    (λ c. search needs)
     slice-set-from-z
-    add-i
+    (λ c. search needs)
     loop-less
     loop-again
     same-length

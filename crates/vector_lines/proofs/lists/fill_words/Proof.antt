@@ -21,14 +21,8 @@ loop-holds c =
     let start = no-number 4294967295 (s .line .now) (s .from) (s .list .now) in
     (omega arith, start .0, start .1)
 
-number-up-to-requires : tie.Need-number-up-to-requires Inv-loop μ-loop
-number-up-to-requires c κs = search needs
-
 cast-list : tie.Need-cast-list Inv-loop μ-loop
 cast-list c = let h = c .before .number-up-to .ensures .1 in search needs
-
-mul-list : tie.Need-mul-list Inv-loop μ-loop
-mul-list c = search needs
 
 slice-write-list : tie.Need-slice-write-list Inv-loop μ-loop
 slice-write-list c =
@@ -36,9 +30,6 @@ slice-write-list c =
     let s = l .before .before .before .args in
     let long = number-room 4294967295 (s .line .now) (s .from) (s .list .now) (l .loop .i) (l .loop .list) (l .loop .inv .2) in
     omega (arith, long)
-
-add-i : tie.Need-add-i Inv-loop μ-loop
-add-i c = search needs
 
 loop-less : tie.Need-loop-less Inv-loop μ-loop
 loop-less c = omega arith
@@ -71,11 +62,11 @@ fill-words-spec =
     Inv-loop
     μ-loop
     loop-holds
-    number-up-to-requires
+    (λ c κs. search needs)
     cast-list
-    mul-list
+    (λ c. search needs)
     slice-write-list
-    add-i
+    (λ c. search needs)
     loop-less
     loop-again
     same-length

@@ -3,20 +3,11 @@ use borrow.Author.Needs.{needs}
 use Rattle.vector_lines.proofs.lists.words.Statement.{statement}
 use Rattle.vector_lines.proofs.lists.words.Tie as tie
 
-head-of-requires : tie.Need-head-of-requires
-head-of-requires c κs = search needs
-
 returns : tie.Need-returns
 returns c =
     let h = c .before .head-of .ensures .0 in
     let kept = c .if1 .taken in
     (rw (← h, kept), (rw (← h, kept), rw (← h, kept)))
-
-fill-words-requires : tie.Need-fill-words-requires
-fill-words-requires c κs = search needs
-
-same-length : tie.Need-same-length
-same-length c = search needs
 
 returns-2 : tie.Need-returns-2
 returns-2 c =
@@ -27,4 +18,4 @@ returns-2 c =
     (rw (f .fill-words .ensures .0, ← h, given), (rw (f .fill-words .ensures .1, ← h, given), rw (← h, given)))
 
 pub words-spec : {M : Type 1} → statement M
-words-spec = tie.close (tie.spec head-of-requires returns fill-words-requires same-length returns-2)
+words-spec = tie.close (tie.spec (λ c κs. search needs) returns (λ c κs. search needs) (λ c. search needs) returns-2)

@@ -11,9 +11,6 @@ use Rattle.vector_lines.specs.Numbers.{mostSigned}
 use Rattle.vector_lines.proofs.numbers.complement.Statement.{statement}
 use Rattle.vector_lines.proofs.numbers.complement.Tie as tie
 
-cast-t2 : tie.Need-cast-t2
-cast-t2 c = search needs
-
 -- the bits of n turned over, read as signed
 turned : (n : ℕ) → n ≤ mostSigned → toZ w64 (18446744073709551615 - n) ≡ negsuc n
 turned n h = let same : 18446744073709551615 - n ≡ 18446744073709551616 - suc n = omega arith in rw (same) (toZ-neg w64 n (omega (arith, h)))
@@ -24,4 +21,4 @@ returns c =
     ap (λ (z : ℤ). record { value = z; next = n .next }) (turned (n .value) (c .before .pre))
 
 pub complement-spec : {M : Type 1} → statement M
-complement-spec = tie.close (tie.spec cast-t2 returns)
+complement-spec = tie.close (tie.spec (λ c. search needs) returns)

@@ -7,12 +7,6 @@ use Rattle.vector_lines.proofs.Digits.{in-line, no-digits, zero-first, 
 use Rattle.vector_lines.proofs.numbers.digits.Statement.{statement}
 use Rattle.vector_lines.proofs.numbers.digits.Tie as tie
 
-digit-at-requires : tie.Need-digit-at-requires
-digit-at-requires c κs = search needs
-
-nothing-requires : tie.Need-nothing-requires
-nothing-requires c κs = search needs
-
 returns : tie.Need-returns
 returns c =
     let d = c .before .before in
@@ -26,12 +20,6 @@ add-second c =
     let inside = in-line (s .line .now) (s .start) _ (d .digit-at .ensures) (omega arith) in
     search needs
 
-digit-at-requires-2 : tie.Need-digit-at-requires-2
-digit-at-requires-2 c κs = search needs
-
-nothing-requires-2 : tie.Need-nothing-requires-2
-nothing-requires-2 c κs = search needs
-
 returns-2 : tie.Need-returns-2
 returns-2 c =
     let t = c .before in
@@ -40,9 +28,6 @@ returns-2 c =
     let s = d .before .before .args in
     c .nothing2 .ensures
     ∙ zero-first (s .line .now) (s .start) _ _ (d .digit-at .ensures) (t .before .digit-at2 .ensures) (omega arith) (z .if2 .taken) (t .if3 .taken)
-
-more-digits-requires : tie.Need-more-digits-requires
-more-digits-requires c κs = search needs
 
 returns-3 : tie.Need-returns-3
 returns-3 c =
@@ -57,12 +42,12 @@ pub digits-spec : {M : Type 1} → statement M
 digits-spec =
     tie.close
     (tie.spec
-    digit-at-requires
-    nothing-requires
+    (λ c κs. search needs)
+    (λ c κs. search needs)
     returns
     add-second
-    digit-at-requires-2
-    nothing-requires-2
+    (λ c κs. search needs)
+    (λ c κs. search needs)
     returns-2
-    more-digits-requires
+    (λ c κs. search needs)
     returns-3)

@@ -4,9 +4,6 @@ use borrow.Author.Tests.{eq-eqb, ne-eqb}
 use Rattle.vector_lines.proofs.numbers.expect.Statement.{statement}
 use Rattle.vector_lines.proofs.numbers.expect.Tie as tie
 
-number-requires : tie.Need-number-requires
-number-requires c κs = search needs
-
 returns : tie.Need-returns
 returns c = rw (← c .before .before .number .ensures, eq-eqb _ _ (c .if1 .taken))
 
@@ -14,4 +11,4 @@ returns-2 : tie.Need-returns-2
 returns-2 c = rw (← c .before .before .number .ensures, ne-eqb _ _ (c .if1 .left))
 
 pub expect-spec : {M : Type 1} → statement M
-expect-spec = tie.close (tie.spec number-requires returns returns-2)
+expect-spec = tie.close (tie.spec (λ c κs. search needs) returns returns-2)

@@ -5,9 +5,6 @@ use borrow.Author.Tests.{lt-ltb, le-ltb}
 use Rattle.vector_lines.proofs.numbers.limited.Statement.{statement}
 use Rattle.vector_lines.proofs.numbers.limited.Tie as tie
 
-nothing-requires : tie.Need-nothing-requires
-nothing-requires c κs = search needs
-
 returns : tie.Need-returns
 returns c = (rw (c .nothing .ensures, lt-ltb _ _ (c .before .if1 .taken)), rw (c .nothing .ensures) (omega arith))
 
@@ -15,4 +12,4 @@ returns-2 : tie.Need-returns-2
 returns-2 c = (rw (le-ltb _ _ (c .if1 .left)), c .if1 .left)
 
 pub limited-spec : {M : Type 1} → statement M
-limited-spec = tie.close (tie.spec nothing-requires returns returns-2)
+limited-spec = tie.close (tie.spec (λ c κs. search needs) returns returns-2)

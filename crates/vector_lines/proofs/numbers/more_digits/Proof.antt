@@ -20,14 +20,8 @@ Inv-loop line start first value₀ at₀ d₀ value at d =
 abbrev μ-loop : tie.MeasureT-loop
 μ-loop line start first value₀ at₀ d₀ value at d = length line - at
 
-digit-at-requires : tie.Need-digit-at-requires Inv-loop μ-loop
-digit-at-requires c κs = search needs
-
 loop-holds : tie.Need-loop-holds Inv-loop μ-loop
 loop-holds c = (c .digit-at .ensures, refl, refl, search needs)
-
-nothing-requires : tie.Need-nothing-requires Inv-loop μ-loop
-nothing-requires c κs = search needs
 
 returns : tie.Need-returns Inv-loop μ-loop
 returns c =
@@ -37,20 +31,11 @@ returns c =
     c .nothing .ensures
     ∙ too-long (s .line .now) (l .loop .at) _ (l .loop .inv .0) (s .start) (s .first) (l .loop .value) (l .loop .inv .1) (t .before .loop-test .taken) (t .if1 .taken)
 
-mul-value : tie.Need-mul-value Inv-loop μ-loop
-mul-value c = search needs
-
-add-value : tie.Need-add-value Inv-loop μ-loop
-add-value c = search needs
-
 add-at : tie.Need-add-at Inv-loop μ-loop
 add-at c =
     let l = c .before .before in
     let inside = in-line (l .before .before .before .args .line .now) (l .loop .at) _ (l .loop .inv .0) (c .before .loop-test .taken) in
     search needs
-
-digit-at-requires-2 : tie.Need-digit-at-requires-2 Inv-loop μ-loop
-digit-at-requires-2 c κs = search needs
 
 loop-less : tie.Need-loop-less Inv-loop μ-loop
 loop-less c =
@@ -82,14 +67,14 @@ more-digits-spec =
     (tie.spec
     Inv-loop
     μ-loop
-    digit-at-requires
+    (λ c κs. search needs)
     loop-holds
-    nothing-requires
+    (λ c κs. search needs)
     returns
-    mul-value
-    add-value
+    (λ c. search needs)
+    (λ c. search needs)
     add-at
-    digit-at-requires-2
+    (λ c κs. search needs)
     loop-less
     loop-again
     returns-2)

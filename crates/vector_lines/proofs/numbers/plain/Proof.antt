@@ -6,11 +6,8 @@ use mir.Facts.{toZ-pos}
 use Rattle.vector_lines.proofs.numbers.plain.Statement.{statement}
 use Rattle.vector_lines.proofs.numbers.plain.Tie as tie
 
-cast-t2 : tie.Need-cast-t2
-cast-t2 c = search needs
-
 returns : tie.Need-returns
 returns c = rw (toZ-pos w64 {n = c .before .args .n .value} (omega arith))
 
 pub plain-spec : {M : Type 1} → statement M
-plain-spec = tie.close (tie.spec cast-t2 returns)
+plain-spec = tie.close (tie.spec (λ c. search needs) returns)

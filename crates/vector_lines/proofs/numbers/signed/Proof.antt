@@ -4,21 +4,6 @@ use borrow.Author.Needs.{needs}
 use Rattle.vector_lines.proofs.numbers.signed.Statement.{statement}
 use Rattle.vector_lines.proofs.numbers.signed.Tie as tie
 
-token-requires : tie.Need-token-requires
-token-requires c κs = search needs
-
-byte-requires : tie.Need-byte-requires
-byte-requires c κs = search needs
-
-after-requires : tie.Need-after-requires
-after-requires c κs = search needs
-
-digits-requires : tie.Need-digits-requires
-digits-requires c κs = search needs
-
-limited-requires : tie.Need-limited-requires
-limited-requires c κs = search needs
-
 complement-requires : tie.Need-complement-requires
 complement-requires c κs = c .limited .ensures .1
 
@@ -27,12 +12,6 @@ returns c =
     let l = c .before in
     let b = l .before .before .before .before in
     rw (c .complement .ensures, l .limited .ensures .0, l .before .digits .ensures, l .before .before .after .ensures, ← b .before .token .ensures, ← b .byte .ensures, eq-eqb _ _ (l .before .before .before .if1 .taken))
-
-digits-requires-2 : tie.Need-digits-requires-2
-digits-requires-2 c κs = search needs
-
-limited-requires-2 : tie.Need-limited-requires-2
-limited-requires-2 c κs = search needs
 
 plain-requires : tie.Need-plain-requires
 plain-requires c κs = c .limited2 .ensures .1
@@ -47,14 +26,14 @@ pub signed-spec : {M : Type 1} → statement M
 signed-spec =
     tie.close
     (tie.spec
-    token-requires
-    byte-requires
-    after-requires
-    digits-requires
-    limited-requires
+    (λ c κs. search needs)
+    (λ c κs. search needs)
+    (λ c κs. search needs)
+    (λ c κs. search needs)
+    (λ c κs. search needs)
     complement-requires
     returns
-    digits-requires-2
-    limited-requires-2
+    (λ c κs. search needs)
+    (λ c κs. search needs)
     plain-requires
     returns-2)
