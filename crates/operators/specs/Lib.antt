@@ -1,3 +1,2 @@
 pub mod Operators
 pub mod Numbers
-pub mod Conventions

@@ -1,7 +1,7 @@
--- The operators and their numbers: `CompositeOp::ALL` and `is_map` (composite.rs, 198 to 269 and 380 to 382).
--- Document 01: "Numbers follow `CompositeOp::ALL`". The order of `ALL` stands once, in `after`, from which both the list and the numbers are read:
--- there is no test for equal operators, so a list alone would give an operator no number.
-use mathlib.Core.Path.{_≡_}
+-- The operators: their numbers (`CompositeOp::ALL`, composite.rs 198 to 269), their conventions (`convention`, 916 to 943) and which are maps (`is_map`, 380 to 382).
+-- Document 01: "Numbers follow `CompositeOp::ALL`", and "`convention` decides division by the union alpha, even where comments group otherwise".
+-- An operator has one line, in `line`; the list of the operators, their count and their numbers are read from it. There is no test for equal operators,
+-- so that a list alone would give an operator no number: each line names the operator after it.
 use mathlib.Core.Bool.{Bool, false, _||_}
 use mathlib.Core.List.{List, [], _∷_}
 use mathlib.Core.Option.{Option, none, some}
@@ -10,108 +10,111 @@ use lib.Dec.{eqb}
 use lib.ListN.{length, getD}
 use Rattle.operators.specs.declared.CompositeOp.{CompositeOp}
 use Rattle.operators.specs.declared.CompositeOp.the-variants as O
+use Rattle.operators.specs.declared.Convention.{Convention}
+use Rattle.operators.specs.declared.Convention.the-variants.{Premult, Divided, OnPremult, PremultOnly}
 
--- the operators in the order of `ALL`, each with the one after it
-abbrev pub after : CompositeOp → Option CompositeOp
-after O.Over = some O.In
-after O.In = some O.Out
-after O.Out = some O.Atop
-after O.Atop = some O.Xor
-after O.Xor = some O.Plus
-after O.Plus = some O.Multiply
-after O.Multiply = some O.Screen
-after O.Screen = some O.Overlay
-after O.Overlay = some O.Darken
-after O.Darken = some O.Lighten
-after O.Lighten = some O.Difference
-after O.Difference = some O.HardLight
-after O.HardLight = some O.SoftLight
-after O.SoftLight = some O.ColorDodge
-after O.ColorDodge = some O.ColorBurn
-after O.ColorBurn = some O.Clear
-after O.Clear = some O.Src
-after O.Src = some O.Dst
-after O.Dst = some O.DstOver
-after O.DstOver = some O.DstIn
-after O.DstIn = some O.DstOut
-after O.DstOut = some O.DstAtop
-after O.DstAtop = some O.MinusDst
-after O.MinusDst = some O.MinusSrc
-after O.MinusSrc = some O.DivideDst
-after O.DivideDst = some O.DivideSrc
-after O.DivideSrc = some O.ModulusAdd
-after O.ModulusAdd = some O.ModulusSubtract
-after O.ModulusSubtract = some O.Exclusion
-after O.Exclusion = some O.LinearBurn
-after O.LinearBurn = some O.LinearDodge
-after O.LinearDodge = some O.LinearLight
-after O.LinearLight = some O.VividLight
-after O.VividLight = some O.PinLight
-after O.PinLight = some O.HardMix
-after O.HardMix = some O.PegtopLight
-after O.PegtopLight = some O.SoftBurn
-after O.SoftBurn = some O.SoftDodge
-after O.SoftDodge = some O.Stamp
-after O.Stamp = some O.Freeze
-after O.Freeze = some O.Reflect
-after O.Reflect = some O.Negate
-after O.Negate = some O.Interpolate
-after O.Interpolate = some O.Mathematics
-after O.Mathematics = some O.Blend
-after O.Blend = some O.Dissolve
-after O.Dissolve = some O.Rmse
-after O.Rmse = some O.DarkenIntensity
-after O.DarkenIntensity = some O.LightenIntensity
-after O.LightenIntensity = some O.Hue
-after O.Hue = some O.Saturate
-after O.Saturate = some O.Luminize
-after O.Luminize = some O.Colorize
-after O.Colorize = some O.CopyRed
-after O.CopyRed = some O.CopyGreen
-after O.CopyGreen = some O.CopyBlue
-after O.CopyBlue = some O.CopyAlpha
-after O.CopyAlpha = some O.CopyCyan
-after O.CopyCyan = some O.CopyMagenta
-after O.CopyMagenta = some O.CopyYellow
-after O.CopyYellow = some O.CopyBlack
-after O.CopyBlack = some O.ChangeMask
-after O.ChangeMask = some O.Bumpmap
-after O.Bumpmap = some O.Threshold
-after O.Threshold = some O.Displace
-after O.Displace = some O.Distort
-after O.Distort = some O.Blur
-after O.Blur = some O.Intensity
-after O.Intensity = some O.Modulate
-after O.Modulate = none
+-- how an operator combines its blend with the alphas, and the operator after it
+pub record Line : Type 0 where
+  pub by : Convention
+  pub next : Option CompositeOp
 
--- the operators have the numbers below this one
-abbrev pub count : ℕ
-count = 70
+infix 20 _▸_
+abbrev pub _▸_ : Convention → CompositeOp → Line
+c ▸ o = record { by = c; next = some o }
 
--- n operators of `ALL`, or all that are left, from one on
+-- Each operator's line, in the order of `ALL`: its convention ▸ the operator after it. The Rust's Premult is "every other".
+abbrev pub line : CompositeOp → Line
+line O.Over = Premult ▸ O.In
+line O.In = Premult ▸ O.Out
+line O.Out = Premult ▸ O.Atop
+line O.Atop = Premult ▸ O.Xor
+line O.Xor = Premult ▸ O.Plus
+line O.Plus = Premult ▸ O.Multiply
+line O.Multiply = Premult ▸ O.Screen
+line O.Screen = Premult ▸ O.Overlay
+line O.Overlay = Divided ▸ O.Darken
+line O.Darken = OnPremult ▸ O.Lighten
+line O.Lighten = Premult ▸ O.Difference
+line O.Difference = Premult ▸ O.HardLight
+line O.HardLight = Divided ▸ O.SoftLight
+line O.SoftLight = Divided ▸ O.ColorDodge
+line O.ColorDodge = Divided ▸ O.ColorBurn
+line O.ColorBurn = Divided ▸ O.Clear
+line O.Clear = Premult ▸ O.Src
+line O.Src = Premult ▸ O.Dst
+line O.Dst = Premult ▸ O.DstOver
+line O.DstOver = Premult ▸ O.DstIn
+line O.DstIn = Premult ▸ O.DstOut
+line O.DstOut = Premult ▸ O.DstAtop
+line O.DstAtop = Premult ▸ O.MinusDst
+line O.MinusDst = Divided ▸ O.MinusSrc
+line O.MinusSrc = Divided ▸ O.DivideDst
+line O.DivideDst = OnPremult ▸ O.DivideSrc
+line O.DivideSrc = OnPremult ▸ O.ModulusAdd
+line O.ModulusAdd = PremultOnly ▸ O.ModulusSubtract
+line O.ModulusSubtract = PremultOnly ▸ O.Exclusion
+line O.Exclusion = PremultOnly ▸ O.LinearBurn
+line O.LinearBurn = Premult ▸ O.LinearDodge
+line O.LinearDodge = Divided ▸ O.LinearLight
+line O.LinearLight = Divided ▸ O.VividLight
+line O.VividLight = Divided ▸ O.PinLight
+line O.PinLight = Divided ▸ O.HardMix
+line O.HardMix = Divided ▸ O.PegtopLight
+line O.PegtopLight = Divided ▸ O.SoftBurn
+line O.SoftBurn = Divided ▸ O.SoftDodge
+line O.SoftDodge = Divided ▸ O.Stamp
+line O.Stamp = Premult ▸ O.Freeze
+line O.Freeze = Divided ▸ O.Reflect
+line O.Reflect = Divided ▸ O.Negate
+line O.Negate = PremultOnly ▸ O.Interpolate
+line O.Interpolate = PremultOnly ▸ O.Mathematics
+line O.Mathematics = Divided ▸ O.Blend
+line O.Blend = Premult ▸ O.Dissolve
+line O.Dissolve = Premult ▸ O.Rmse
+line O.Rmse = Premult ▸ O.DarkenIntensity
+line O.DarkenIntensity = Premult ▸ O.LightenIntensity
+line O.LightenIntensity = Premult ▸ O.Hue
+line O.Hue = Premult ▸ O.Saturate
+line O.Saturate = Premult ▸ O.Luminize
+line O.Luminize = Premult ▸ O.Colorize
+line O.Colorize = Premult ▸ O.CopyRed
+line O.CopyRed = Premult ▸ O.CopyGreen
+line O.CopyGreen = Premult ▸ O.CopyBlue
+line O.CopyBlue = Premult ▸ O.CopyAlpha
+line O.CopyAlpha = Premult ▸ O.CopyCyan
+line O.CopyCyan = Premult ▸ O.CopyMagenta
+line O.CopyMagenta = Premult ▸ O.CopyYellow
+line O.CopyYellow = Premult ▸ O.CopyBlack
+line O.CopyBlack = Premult ▸ O.ChangeMask
+line O.ChangeMask = Premult ▸ O.Bumpmap
+line O.Bumpmap = Premult ▸ O.Threshold
+line O.Threshold = Premult ▸ O.Displace
+line O.Displace = Premult ▸ O.Distort
+line O.Distort = Premult ▸ O.Blur
+line O.Blur = Premult ▸ O.Intensity
+line O.Intensity = Premult ▸ O.Modulate
+line O.Modulate = record { by = Premult; next = none }
+
+abbrev pub convention : CompositeOp → Convention
+convention o = line o .by
+
+-- the operators from one on, as long as n suffices
 abbrev pub onward : ℕ → Option CompositeOp → List CompositeOp
 onward zero o = []
 onward (suc n) none = []
-onward (suc n) (some o) = o ∷ onward n (after o)
+onward (suc n) (some o) = o ∷ onward n (line o .next)
 
+-- all of them; 256 is more than there are
 abbrev pub operators : List CompositeOp
-operators = onward count (some O.Over)
+operators = onward 256 (some O.Over)
+
+-- the operators have the numbers below this one
+abbrev pub count : ℕ
+count = length operators
 
 -- an operator's number: as many stand before it
 abbrev pub numberOf : CompositeOp → ℕ
-numberOf o = count - length (onward count (some o))
-
--- o stands at place n of a list
-abbrev pub Is : List CompositeOp → ℕ → CompositeOp → Type 0
-Is [] n o = ⊥
-Is (x ∷ xs) zero o = o ≡ x
-Is (x ∷ xs) (suc n) o = Is xs n o
-
--- what f gives for the operator at place n of a list, and z past its end
-abbrev pub onNth {ℓ} : {A : Type ℓ} → A → (CompositeOp → A) → List CompositeOp → ℕ → A
-onNth z f [] n = z
-onNth z f (x ∷ xs) zero = f x
-onNth z f (x ∷ xs) (suc n) = onNth z f xs n
+numberOf o = count - length (onward 256 (some o))
 
 -- the operator with a number; past the last number, Over
 abbrev pub opAt : ℕ → CompositeOp

@@ -1,5 +1,5 @@
-// The 70 operators of `CompositeOp` (composite.rs, 46 to 383): their numbers, what a number names, their conventions.
-// The contracts cite specs/Operators and specs/Numbers; specs/Conventions is for the crates above.
+// The 70 operators of `CompositeOp` (composite.rs, 46 to 383): their numbers, and what a number names.
+// The contracts cite specs/Operators and specs/Numbers.
 ghost use mathlib.Core.Path.{_≡_};
 ghost use Rattle.operators.specs.Operators.{numberOf, opAt, isMap};
 ghost use Rattle.operators.specs.Numbers.{opOf};
@@ -80,7 +80,7 @@ pub enum CompositeOp {
     Modulate,
 }
 
-// How an operator combines its blend with the alphas (composite.rs, 909 to 914); specs/Conventions says which does how.
+// How an operator combines its blend with the alphas (composite.rs, 909 to 914); specs/Operators says which does how.
 pub enum Convention {
     Premult,
     Divided,
@@ -98,7 +98,7 @@ pub enum Numbered {
 
 impl CompositeOp {
     // The operators have the numbers 0 to COUNT - 1.
-    pub const COUNT: u64 = 70;
+    pub const COUNT: u64 = table::ALL.len() as u64;
     // The two that are not carried.
     pub const INTERPOLATE: u64 = 43;
 

@@ -1,5 +1,7 @@
 // The table of the operators, read both ways: from a number to the operator, and from the operator to its number.
-ghost use Rattle.operators.specs.Operators.{operators, Is};
+ghost use mathlib.Core.Path.{_≡_};
+ghost use Prim.Native.Nat.{_<_};
+ghost use Rattle.operators.specs.Operators.{count, opAt};
 use super::CompositeOp;
 
 // Every operator, in the order of their numbers.
@@ -78,7 +80,7 @@ pub const ALL: [CompositeOp; 70] = [
 
 // The operator's place in `ALL`. Each arm's number decides what its contract asks, so that no arm needs a proof of its own.
 pub fn place(op: CompositeOp) -> u64
-    ensures { λ r. ⌜ Is operators r op ⌝ }
+    ensures { λ r. ⌜ (op ≡ opAt r) × (r < count) ⌝ }
 {
     match op {
         CompositeOp::Over => 0,

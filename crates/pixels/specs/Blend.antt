@@ -1,8 +1,6 @@
 -- `blend_inner` of composite.rs (lines 958 to 1028): what a mathematical operator makes of one colour channel of the source, s, and of the
 -- destination, d. One line an operator, one rounding an operation, in the Rust's order. Definitions only.
-use Prim.Native.Nat.{ℕ}
 use lib.Ieee.{Float}
-use Rattle.operators.specs.Operators.{operators, onNth}
 use Rattle.operators.specs.declared.CompositeOp.{CompositeOp}
 use Rattle.operators.specs.declared.CompositeOp.the-variants as O
 use Rattle.float_steps.specs.Notation.{_⊕_, _⊖_, _⊗_, f1, f2}
@@ -84,7 +82,3 @@ blendOf O.Distort p s d = s
 blendOf O.Blur p s d = s
 blendOf O.Intensity p s d = s
 blendOf O.Modulate p s d = s
-
--- the line of the operator at a place of the list; past its end the source
-abbrev pub blendAt : ℕ → Params → Float → Float → Float
-blendAt n = onNth (λ p s d. s) blendOf operators n

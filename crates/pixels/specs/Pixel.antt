@@ -2,10 +2,8 @@
 -- One line an operator, with the Rust's names. Definitions only.
 use mathlib.Core.Bool.{Bool, cond, _&&_}
 use mathlib.Core.List.{List, [], _∷_}
-use Prim.Native.Nat.{ℕ}
 use lib.Ieee.{Float, lt, le}
-use Rattle.operators.specs.Operators.{operators, onNth}
-use Rattle.operators.specs.Conventions.{convention}
+use Rattle.operators.specs.Operators.{convention}
 use Rattle.operators.specs.declared.CompositeOp.{CompositeOp}
 use Rattle.operators.specs.declared.CompositeOp.the-variants as O
 use Rattle.operators.specs.declared.Convention.{Convention}
@@ -190,7 +188,3 @@ pixelOf O.Distort p s d = d
 pixelOf O.Blur p s d = d
 pixelOf O.Intensity p s d = grayOf (intensityOf s) (overAlphaOf (s .a) (d .a))
 pixelOf O.Modulate p s d = withColour (modulatedBy (intensityOf s ⊖ half) (hslAt d) p) (d .a)
-
--- the line of the operator at a place of the list; past its end the destination
-abbrev pub pixelAt : ℕ → Params → Rgba → Rgba → Rgba
-pixelAt n = onNth (λ p s d. d) pixelOf operators n

@@ -12,7 +12,7 @@ use Rattle.ieee_laws.proofs.Bound.{at-most-finite, mul-bound, add-bound}
 use Rattle.ieee_laws.proofs.Clamp.{unit-same, unit-kept}
 use Rattle.operators.specs.declared.Convention.{Convention}
 use Rattle.operators.specs.declared.Convention.the-variants.{Premult, Divided, OnPremult, PremultOnly}
-use Rattle.operators.specs.Conventions.{convention}
+use Rattle.operators.specs.Operators.{convention}
 use Rattle.pictures.specs.declared.Rgba.{Rgba}
 use Rattle.pixels.specs.declared.Params.{Params}
 use Rattle.pixels.specs.Pixel.{pixelOf}

@@ -14,7 +14,7 @@ use Rattle.ieee_laws.proofs.Zero.{zero-times, add-same, mul-same, div-same}
 use Rattle.ieee_laws.proofs.Clamp.{unit-same, unit-twice}
 use Rattle.operators.specs.declared.Convention.{Convention}
 use Rattle.operators.specs.declared.Convention.the-variants.{Premult, Divided, OnPremult, PremultOnly}
-use Rattle.operators.specs.Conventions.{convention}
+use Rattle.operators.specs.Operators.{convention}
 use Rattle.pictures.specs.declared.Rgba.{Rgba}
 use Rattle.pixels.specs.declared.Params.{Params}
 use Rattle.pixels.specs.Blend.{blendOf}

@@ -8,7 +8,7 @@ use lib.Ieee.{Float, nan, inf, fin, lt, le, eq}
 use lib.Ieee.Scale.{finite}
 use Rattle.operators.specs.declared.Convention.{Convention}
 use Rattle.operators.specs.declared.Convention.the-variants.{Premult, Divided, OnPremult, PremultOnly}
-use Rattle.operators.specs.Conventions.{convention}
+use Rattle.operators.specs.Operators.{convention}
 use Rattle.float_steps.specs.Notation.{_⊕_, _⊖_, _⊗_, _⊘_, f0, f1, f2, half}
 use Rattle.float_steps.specs.Order.{smallerOf, unitOf}
 use Rattle.ieee_laws.specs.Same.{Same, Zero}

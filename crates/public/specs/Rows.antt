@@ -13,7 +13,7 @@ use Rattle.operators.specs.declared.Convention.the-variants.{Premult, Divided, 
 use Rattle.operators.specs.declared.CompositeOp.{CompositeOp}
 use Rattle.operators.specs.declared.CompositeOp.the-variants as O
 use Rattle.blends.specs.Hsl.{rgbOf}
-use Rattle.operators.specs.Conventions.{convention}
+use Rattle.operators.specs.Operators.{convention}
 use Rattle.pictures.specs.declared.Rgba.{Rgba}
 use Rattle.pixels.specs.Pixel.{pixelOf, rgbaOf, unused}
 use Rattle.public.specs.PorterDuff.{Operator, clear, A, B, AoverB, BoverA, AinB, BinA, AoutB, BoutA, AatopB, BatopA, AplusB, colour, coverage}
