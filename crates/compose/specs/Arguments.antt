@@ -4,13 +4,13 @@
 use mathlib.Core.Bool.{Bool, cond, _&&_}
 use mathlib.Core.List.{List, [], _∷_}
 use Prim.Native.Nat.{ℕ}
-use lib.Dec.{eqb, ltb}
+use lib.Dec.{ltb}
 use lib.ListN.{getD}
 use lib.Ieee.{Float}
 use Rattle.float_steps.specs.Notation.{_⊖_, _⊗_, _⊘_, lit, f0, f1}
 use Rattle.float_steps.specs.Order.{finiteOf}
 use Rattle.float_steps.specs.Words.{valueOf}
-use Rattle.operators.specs.Operators.{numberOf, isMap}
+use Rattle.operators.specs.Operators.{same, isMap}
 use Rattle.operators.specs.declared.CompositeOp.{CompositeOp}
 use Rattle.operators.specs.declared.CompositeOp.the-variants as O
 use Rattle.layers.specs.declared.Args.{Args}
@@ -73,10 +73,6 @@ mapParams args = let x = argOr args 0 (lit 0x41a0_0000) in pair x (argOr args 1 
 -- Mathematics, lines 1025 and 1026
 abbrev pub rawParams : Args → Params
 rawParams args = record { a = rawArg args 0; b = rawArg args 1; c = rawArg args 2; d = rawArg args 3 }
-
--- one operator is another
-abbrev pub same : CompositeOp → CompositeOp → Bool
-same o p = eqb (numberOf o) (numberOf p)
 
 unfoldable pub paramsOf : CompositeOp → Args → Params
 paramsOf op args =

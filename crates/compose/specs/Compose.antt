@@ -8,7 +8,7 @@ use lib.ListN.{take, drop}
 use lib.Ieee.{Float, binary32, ofInt}
 use Rattle.float_steps.specs.Notation.{_⊕_, _⊖_, _⊗_, f0, half}
 use Rattle.float_steps.specs.Words.{wordOf}
-use Rattle.operators.specs.Operators.{isMap}
+use Rattle.operators.specs.Operators.{same, isMap}
 use Rattle.operators.specs.declared.CompositeOp.the-variants as O
 use Rattle.places.specs.Placement.{placementOf}
 use Rattle.places.specs.Spots.{sourceIndex}
@@ -24,7 +24,7 @@ use Rattle.pictures.specs.declared.Rgba.{Rgba}
 use Rattle.pictures.specs.declared.Words.{Words}
 use Rattle.pixels.specs.Pixel.{pixelOf, clear}
 use Rattle.pixels.specs.declared.Params.{Params}
-use Rattle.compose.specs.Arguments.{paramsOf, same}
+use Rattle.compose.specs.Arguments.{paramsOf}
 use Rattle.compose.specs.declared.Plan.{Plan}
 
 -- ---- before the rows, lines 597 to 603

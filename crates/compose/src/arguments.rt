@@ -103,23 +103,22 @@ fn raw_params(args: Args) -> Params
 pub fn params(op: CompositeOp, args: Args) -> Params
     ensures { λ r. ⌜ r ≡ paramsOf op args ⌝ }
 {
-    let n = op.number();
-    if n == CompositeOp::BLEND {
+    if op.is(CompositeOp::Blend) {
         return blend_params(args);
     }
-    if n == CompositeOp::DISSOLVE {
+    if op.is(CompositeOp::Dissolve) {
         return dissolve_params(args);
     }
-    if n == CompositeOp::CHANGE_MASK {
+    if op.is(CompositeOp::ChangeMask) {
         return mask_params(args);
     }
-    if n == CompositeOp::THRESHOLD {
+    if op.is(CompositeOp::Threshold) {
         return threshold_params(args);
     }
-    if n == CompositeOp::MODULATE {
+    if op.is(CompositeOp::Modulate) {
         return modulate_params(args);
     }
-    if n == CompositeOp::MATHEMATICS {
+    if op.is(CompositeOp::Mathematics) {
         return raw_params(args);
     }
     if op.is_map() {

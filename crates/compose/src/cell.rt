@@ -32,7 +32,7 @@ pub fn plan(l: Layer, dw: usize, dh: usize) -> Plan
     let source = l.source;
     let params = arguments::params(op, l.args);
     let map = op.is_map();
-    let displace = op.number() == CompositeOp::DISPLACE;
+    let displace = op.is(CompositeOp::Displace);
     let gravity = l.gravity;
     let corner = placement(
         gravity,

@@ -2,7 +2,7 @@
 -- Document 01: "Numbers follow `CompositeOp::ALL`", and "`convention` decides division by the union alpha, even where comments group otherwise".
 -- An operator has one line, in `line`; the list of the operators, their count and their numbers are read from it. There is no test for equal operators,
 -- so that a list alone would give an operator no number: each line names the operator after it.
-use mathlib.Core.Bool.{Bool, false, _||_}
+use mathlib.Core.Bool.{Bool, _||_}
 use mathlib.Core.List.{List, [], _∷_}
 use mathlib.Core.Option.{Option, none, some}
 use Prim.Native.Nat.{ℕ, zero, suc, _-_}
@@ -120,11 +120,10 @@ numberOf o = count - length (onward 256 (some o))
 abbrev pub opAt : ℕ → CompositeOp
 opAt n = getD operators n O.Over
 
--- o is one of a list
-abbrev pub isOneOf : List CompositeOp → CompositeOp → Bool
-isOneOf [] o = false
-isOneOf (x ∷ xs) o = eqb (numberOf o) (numberOf x) || isOneOf xs o
+-- one operator is another
+abbrev pub same : CompositeOp → CompositeOp → Bool
+same o p = eqb (numberOf o) (numberOf p)
 
 -- the operators that read the source as a map rather than as a picture to blend
 abbrev pub isMap : CompositeOp → Bool
-isMap o = isOneOf (O.Displace ∷ O.Distort ∷ O.Blur ∷ []) o
+isMap o = same o O.Displace || same o O.Distort || same o O.Blur

@@ -1,7 +1,7 @@
 // The 70 operators of `CompositeOp` (composite.rs, 46 to 383): their numbers, and what a number names.
 // The contracts cite specs/Operators and specs/Numbers.
 ghost use mathlib.Core.Path.{_≡_};
-ghost use Rattle.operators.specs.Operators.{numberOf, opAt, isMap};
+ghost use Rattle.operators.specs.Operators.{numberOf, opAt, same, isMap};
 ghost use Rattle.operators.specs.Numbers.{opOf};
 
 mod table;
@@ -99,26 +99,10 @@ pub enum Numbered {
 impl CompositeOp {
     // The operators have the numbers 0 to COUNT - 1.
     pub const COUNT: u64 = table::ALL.len() as u64;
-    // The two that are not carried.
+    // The two that are not carried (document 01, CURVE).
     pub const INTERPOLATE: u64 = 43;
 
     pub const BLUR: u64 = 67;
-    // With Blur, the two that read the source as a map.
-    pub const DISPLACE: u64 = 65;
-
-    pub const DISTORT: u64 = 66;
-    // With the maps, those that read arguments.
-    pub const MATHEMATICS: u64 = 44;
-
-    pub const BLEND: u64 = 45;
-
-    pub const DISSOLVE: u64 = 46;
-
-    pub const CHANGE_MASK: u64 = 62;
-
-    pub const THRESHOLD: u64 = 64;
-
-    pub const MODULATE: u64 = 69;
 
     // The operator's place in `ALL`.
     pub fn number(self) -> u64
@@ -157,17 +141,23 @@ impl CompositeOp {
         Numbered::Op(Self::at(k))
     }
 
+    // Whether it is this operator.
+    pub fn is(self, other: CompositeOp) -> bool
+        ensures { λ r. ⌜ r ≡ same self other ⌝ }
+    {
+        self.number() == other.number()
+    }
+
     // Whether the operator reads the source as a map rather than as a picture to blend.
     pub fn is_map(self) -> bool
         ensures { λ r. ⌜ r ≡ isMap self ⌝ }
     {
-        let n = self.number();
-        if n == Self::DISPLACE {
+        if self.is(CompositeOp::Displace) {
             return true;
         }
-        if n == Self::DISTORT {
+        if self.is(CompositeOp::Distort) {
             return true;
         }
-        n == Self::BLUR
+        self.is(CompositeOp::Blur)
     }
 }

@@ -1,19 +1,16 @@
--- `CompositeOp::is_map` meets its contract: each test on the number is a test of the definition. Assumes nothing.
-use mathlib.Core.Path.{sym}
-use mathlib.Core.Bool.{or-false}
+-- `CompositeOp::is_map` meets its contract: its tests are those of the definition. Assumes nothing.
 use borrow.Author.Needs.{needs}
-use borrow.Author.Tests.{eq-eqb, ne-eqb}
 use Rattle.operators.proofs.CompositeOp.is_map.Statement.{statement}
 use Rattle.operators.proofs.CompositeOp.is_map.Tie as tie
 
 returns : tie.Need-returns
-returns c = rw (← c .before .number .ensures, eq-eqb _ _ (c .if1 .taken))
+returns c = rw (← c .before .is .ensures, c .if1 .taken)
 
 returns-2 : tie.Need-returns-2
-returns-2 c = rw (← c .before .before .number .ensures, ne-eqb _ _ (c .before .if1 .left), eq-eqb _ _ (c .if2 .taken))
+returns-2 c = rw (← c .before .before .before .is .ensures, c .before .before .if1 .left, ← c .before .is2 .ensures, c .if2 .taken)
 
 returns-3 : tie.Need-returns-3
-returns-3 c = rw (← c .before .before .number .ensures, ne-eqb _ _ (c .before .if1 .left), ne-eqb _ _ (c .if2 .left)) (sym (or-false _))
+returns-3 c = rw (← c .before .before .before .before .is .ensures, c .before .before .before .if1 .left, ← c .before .before .is2 .ensures, c .before .if2 .left) (c .is3 .ensures)
 
 pub is-map-spec : {M : Type 1} → statement M
-is-map-spec = tie.close (tie.spec (λ c κs. search needs) returns returns-2 returns-3)
+is-map-spec = tie.close (tie.spec (λ c κs. search needs) returns (λ c κs. search needs) returns-2 (λ c κs. search needs) returns-3)
