@@ -1,7 +1,7 @@
 //! Random requests: jobs, compositions, narrowings and names, with the values that are likely to matter.
 
 use crate::lines::Request;
-use crate::reference;
+use crate::reference::{self, ALIASES};
 use crate::request::{ARGUMENTS, COLUMNS, Job, Memory};
 
 /// Words worth trying: zeros, ones and halves, what lies beside them, subnormals, infinities, NaN patterns.
@@ -370,21 +370,6 @@ impl Random {
     }
 
     pub fn name(&mut self) -> Request {
-        const ALIASES: [&str; 13] = [
-            "srcover",
-            "srcin",
-            "srcout",
-            "srcatop",
-            "copy",
-            "replace",
-            "none",
-            "minus",
-            "divide",
-            "copyopacity",
-            "average",
-            "add",
-            "subtract",
-        ];
         let mut name: Vec<u8> = match self.below(83) {
             n if n < 70 => reference::name(n as usize).into(),
             n => ALIASES[n as usize - 70].into(),

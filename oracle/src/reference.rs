@@ -94,6 +94,23 @@ pub fn from_name(name: &[u8]) -> Option<u64> {
     CompositeOp::ALL.iter().position(|op| *op == operator).map(|place| place as u64)
 }
 
+/// The names beside the operators' own.
+pub const ALIASES: [&str; 13] = [
+    "srcover",
+    "srcin",
+    "srcout",
+    "srcatop",
+    "copy",
+    "replace",
+    "none",
+    "minus",
+    "divide",
+    "copyopacity",
+    "average",
+    "add",
+    "subtract",
+];
+
 /// The operator's own name.
 pub fn name(operator: usize) -> &'static str {
     CompositeOp::ALL[operator].name()

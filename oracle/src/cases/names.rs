@@ -2,23 +2,7 @@
 
 use super::Book;
 use crate::lines::Request;
-use crate::reference;
-
-pub const ALIASES: [&str; 13] = [
-    "srcover",
-    "srcin",
-    "srcout",
-    "srcatop",
-    "copy",
-    "replace",
-    "none",
-    "minus",
-    "divide",
-    "copyopacity",
-    "average",
-    "add",
-    "subtract",
-];
+use crate::reference::{self, ALIASES};
 
 const NEAR: &[&[u8]] = &[
     b"",
