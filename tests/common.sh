@@ -19,7 +19,7 @@ needs() {
 library() {
     if [ -z "${TRAY_LIB:-}" ]; then
         needs rt
-        rt staticlib tray > target/tests/staticlib.log 2>&1 || { tail -n 20 target/tests/staticlib.log; exit 1; }
+        tools/library > target/tests/staticlib.log 2>&1 || { tail -n 20 target/tests/staticlib.log; exit 1; }
         TRAY_LIB=target/staticlib
     fi
     TRAY_LIB=$(cd "$TRAY_LIB" && pwd)
