@@ -11,7 +11,7 @@ use Rattle.places.specs.Bounds.{slack, Measured}
 use Rattle.layers.specs.declared.Layer.{Layer}
 use Rattle.layers.specs.declared.Source.{Source}
 use Rattle.layers.specs.Layers.{layerAt}
-use Rattle.layers.proofs.Accepted.{GoodLayer}
+use Rattle.layers.specs.GoodLayers.{GoodLayer}
 use Rattle.pictures.specs.declared.Words.{Words}
 use Rattle.compose.specs.declared.Plan.{Plan}
 use Rattle.compose.specs.Compose.{planOf, sourceOf}

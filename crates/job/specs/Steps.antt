@@ -4,7 +4,7 @@ use mathlib.Core.List.{List}
 use Prim.Native.Nat.{ℕ, zero, suc, _+_, _-_, _*_, _/_, _%_, _<_, _≤_}
 use lib.ListN.{length, getD, take}
 use Rattle.places.specs.Bounds.{slack}
-use Rattle.layers.proofs.Accepted.{GoodLayer}
+use Rattle.layers.specs.GoodLayers.{GoodLayer}
 use Rattle.layers.specs.Layers.{layerAt}
 use Rattle.layers.specs.Limits.{columns, argWords}
 use Rattle.pictures.specs.declared.Words.{Words}

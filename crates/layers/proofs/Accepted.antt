@@ -1,5 +1,4 @@
--- What is known of a job's inputs that have no fault, and of their layers, for the crates above. Sides and offsets are bounded
--- by the slack of the crate places, not by the job's own limits. Assumes nothing.
+-- What is known of a job's inputs that have no fault, and of their layers, for the crates above. Assumes nothing.
 use mathlib.Core.Path.{_≡_, refl}
 use mathlib.Core.Bool.{Bool, true, false, cond, not, _||_}
 use mathlib.Core.List.{List, [], _∷_}
@@ -15,24 +14,14 @@ use Rattle.places.specs.Bounds.{slack, Measured}
 use Rattle.places.specs.Gravities.{lastGravity}
 use Rattle.layers.specs.declared.Layer.{Layer}
 use Rattle.layers.specs.declared.Verdict.{Verdict}
-use Rattle.layers.specs.Cells.{cellOf, natOf, outsideZ, badShape, areaOf, Channels}
+use Rattle.layers.specs.Cells.{cellOf, natOf, outsideZ, badShape, areaOf}
 use Rattle.layers.specs.Faults.{firstOf, faultIf, badOffset, badPlacing, badSource, layerChecks, layerFault}
+use Rattle.layers.specs.GoodLayers.{GoodLayer}
 use Rattle.layers.specs.Inputs.{Inputs, verdict, badStack, badDst, rowsFault, jobFault}
 use Rattle.layers.specs.Layers.{layerAt}
 use Rattle.layers.specs.Limits.{columns, argWords, mostLayers, mostOffset, atOperator, atGravity, atRight, atDown, atFirst, atWidth, atHeight, atChannels, atCount}
-use Rattle.layers.proofs.Carried.{Carried, carried}
+use Rattle.layers.proofs.Carried.{carried}
 use Rattle.layers.proofs.Ranges.{Ranged, ranged, Shaped, shaped, both-fail, not-fails}
-
--- a layer whose row has no fault, for the number of the source samples
-pub record GoodLayer (samples : ℕ) (l : Layer) : Type 0 where
-  pub op : Carried (l .op)
-  pub right : mag (l .right) ≤ slack
-  pub down : mag (l .down) ≤ slack
-  pub width : l .source .width ≤ slack
-  pub height : l .source .height ≤ slack
-  pub channels : Channels (l .source .channels)
-  pub held : l .source .first + l .source .width * l .source .height * l .source .channels ≤ samples
-  pub count : l .args .count ≤ argWords
 
 -- inputs without a fault
 pub record Accepted (i : Inputs) : Type 0 where

@@ -13,11 +13,8 @@ use Rattle.operators.specs.declared.CompositeOp.the-variants.{Interpolate, Blur
 use Rattle.operators.specs.declared.Numbered.the-variants.{Op, Unknown, Curve}
 use Rattle.operators.proofs.Places.{number-of}
 use Rattle.layers.specs.Cells.{natOf}
+use Rattle.layers.specs.GoodLayers.{Carried}
 use Rattle.layers.proofs.Ranges.{both-fail}
-
-pub record Carried (o : CompositeOp) : Type 0 where
-  pub not-interpolate : o ≡ Interpolate → ⊥
-  pub not-blur : o ≡ Blur → ⊥
 
 passed : (below curve : Bool) (o : CompositeOp) → opFault (cond below (cond curve Curve (Op o)) Unknown) ≡ 0 → (below ≡ true) × (curve ≡ false)
 passed true true o e = absurd (omega arith)

@@ -3,7 +3,7 @@ use mathlib.Core.Path.{_≡_, ap, _∙_, subst⁻¹}
 use Prim.Native.Nat.{_-_}
 use lib.ListN.{length}
 use Rattle.layers.specs.Layers.{layerAt}
-use Rattle.layers.proofs.Accepted.{GoodLayer}
+use Rattle.layers.specs.GoodLayers.{GoodLayer}
 use Rattle.layers.proofs.Ranges.{channels-least, channels-most}
 use Rattle.job.specs.Memory.{Mem, memOf}
 use Rattle.job.specs.Call.{Setting, setting}
