@@ -3,6 +3,7 @@ pub mod arguments; // arguments.rt: an operator's arguments with their defaults
 pub mod cell; // cell.rt: one pixel of the result
 pub mod run; // run.rt: runs of pixels
 pub mod single; // single.rt: the single composition
+pub mod source; // source.rt: a layer's part of the source samples
 
 use layers::ChannelMask;
 use operators::CompositeOp;

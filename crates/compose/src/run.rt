@@ -1,6 +1,6 @@
 // Runs of pixels: the one loop of composition. The single composition and the job both come here, so that the operators' match has one call site.
 ghost use mathlib.Core.Path.{_≡_};
-ghost use Prim.Native.Nat.{_+_, _*_, _/_, _%_, _<_, _≤_};
+ghost use Prim.Native.Nat.{_+_, _*_, _/_, _%_, _<_, _≤_, min};
 ghost use lib.ListN.{length};
 ghost use Rattle.places.specs.Bounds.{slack};
 ghost use Rattle.pictures.specs.Widen.{rgbaAt, valuesOf};
@@ -11,6 +11,16 @@ use crate::Plan;
 use crate::cell::composed;
 use pictures::flat::put;
 use pictures::widen::rgba_at;
+
+// The length of a run: what is wanted, or the room for it where that is less.
+pub fn least(a: usize, b: usize) -> usize
+    ensures { λ r. ⌜ r ≡ min a b ⌝ }
+{
+    if a < b {
+        return a;
+    }
+    b
+}
 
 // The column and the row of the next pixel, row by row, without a division.
 fn column_after(x: usize, dw: usize) -> usize

@@ -1,6 +1,6 @@
 // The single composition: one layer on a destination of one, three or four channels, into a lent output of four.
 ghost use mathlib.Core.Path.{_≡_};
-ghost use Prim.Native.Nat.{_+_, _*_, _<_, _≤_, min};
+ghost use Prim.Native.Nat.{_+_, _*_, _≤_};
 ghost use lib.IntN.{pos};
 ghost use lib.ListN.{length};
 ghost use Rattle.layers.specs.GoodLayers.{GoodLayer};
@@ -13,7 +13,9 @@ ghost use Rattle.compose.specs.Ready.{Ready, Run};
 ghost use Rattle.compose.specs.Single.{answered, composeOf};
 use crate::Plan;
 use crate::cell::plan;
+use crate::run::least;
 use crate::run::run;
+use crate::source::source_of;
 use layers::Layer;
 use layers::cells::natural;
 use layers::check;
@@ -24,15 +26,6 @@ const CHUNK: usize = 64;
 
 // WORK, the number of an output that is too short or too long.
 const REFUSED: u64 = 9;
-
-pub fn least(a: usize, b: usize) -> usize
-    ensures { λ r. ⌜ r ≡ min a b ⌝ }
-{
-    if a < b {
-        return a;
-    }
-    b
-}
 
 // Pixels from .. from + count, at the front of out: their own pixels are widened into a buffer first.
 fn chunk(
@@ -80,10 +73,8 @@ fn whole(
     ensures { λ _. ⌜ now (out .exit) ≡ composedOf (now (samples .entry)) l dw dh channels (now (dst .entry)) ⌝ }
 {
     let p = plan(l, dw, dh);
-    let source = l.source;
-    let first = source.first;
-    let end = first + source.width * source.height * source.channels;
-    chunks(p, &samples[first..end], dst, channels, dw * dh, out);
+    let source = source_of(samples, l);
+    chunks(p, source, dst, channels, dw * dh, out);
 }
 
 // One layer on one destination: 0 and the whole picture in out, or the number of the first fault and out as it was.

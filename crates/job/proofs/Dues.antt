@@ -1,21 +1,20 @@
 -- The writes of a call, stretch by stretch: what each stretch asks, and what it adds. Assumes nothing.
-use mathlib.Core.Path.{_≡_, refl, sym, ap, _∙_, subst, subst⁻¹}
+use mathlib.Core.Path.{_≡_, refl, sym, ap, _∙_, subst}
 use mathlib.Core.List.{List}
 use mathlib.Core.Logic.{⊎-elim}
 use Prim.Native.Nat.{ℕ, _+_, _-_, _*_, _/_, _%_, _<_, _≤_, min}
 use native.Mathlib.Nat.{zero-add, add-assoc, mod-lt, div-add-mod', mul-le-mul, min-eq-left, min-eq-right}
 use native.Mathlib.Omega.{arith}
-use lib.ListN.{length, drop, length-drop}
-use lib.Seq.{length-take-le}
+use lib.ListN.{length}
 use Rattle.places.specs.Bounds.{slack, Measured}
 use Rattle.layers.specs.declared.Layer.{Layer}
-use Rattle.layers.specs.declared.Source.{Source}
 use Rattle.layers.specs.Layers.{layerAt}
 use Rattle.layers.specs.GoodLayers.{GoodLayer}
 use Rattle.pictures.specs.declared.Words.{Words}
 use Rattle.compose.specs.declared.Plan.{Plan}
 use Rattle.compose.specs.Compose.{planOf, sourceOf}
 use Rattle.compose.specs.Ready.{Ready}
+use Rattle.compose.proofs.Placed.{ready-source}
 use Rattle.job.specs.Memory.{Mem, workOf, positionOf}
 use Rattle.job.specs.Call.{Setting, area, pixelOf, runOf}
 use Rattle.job.specs.Steps.{stretchOf, phasePixel, Whole, Raised, Decodable, Sized, Stretch, Due, StretchAhead}
@@ -26,12 +25,6 @@ use Rattle.job.proofs.Runs.{run-on}
 use Rattle.job.proofs.Stretches.{stretch-position, stretch-run, phase-pixel, part-of, some-of}
 
 -- ---- a layer, decoded
-
--- the samples of a source that lies in them
-pub source-length : (samples : List ℕ) (source : Source) → source .first + source .width * source .height * source .channels ≤ length samples
-    → length (sourceOf samples source) ≡ source .width * source .height * source .channels
-source-length samples source h =
-    length-take-le (source .width * source .height * source .channels) (drop (source .first) samples) (rw length-drop (omega arith))
 
 -- a good layer can be placed
 pub placed : (s : Setting) (m : Mem) (l : Layer) → Sized s m → GoodLayer (length (s .samples)) l → Measured (s .width) (s .height) (l .source .width) (l .source .height) (l .right) (l .down)
@@ -48,8 +41,7 @@ pub plan-whole : (s : Setting) (m : Mem) (l : Layer) (p : Plan) (source : List �
     → Whole p (s .channels) (length (s .dst)) (length source) (length (m .work0)) (length (m .work1))
 unfolding planOf
 plan-whole s m l p source z g ep er es =
-    let n : length source ≡ l .source .width * l .source .height * l .source .channels = ap length es ∙ source-length (s .samples) (l .source) (g .held) in
-    let r : Ready p (length source) = subst⁻¹ (Ready p) n er in
+    let r : Ready p (length source) = ready-source (s .samples) source l p g es er in
     rw ep
     record {
       ready = rw ep at r;

@@ -1,6 +1,6 @@
 // One phase: pixels of one picture, composed into a private buffer and written from it.
 ghost use mathlib.Core.Path.{_≡_};
-ghost use Prim.Native.Nat.{_+_, _-_, _*_, _<_, _≤_, min};
+ghost use Prim.Native.Nat.{_+_, _-_, _*_, _<_, _≤_};
 ghost use lib.ListN.{length};
 ghost use Rattle.pictures.specs.Widen.{rgbaAt};
 ghost use Rattle.pictures.specs.FlatWords.{filled};
@@ -9,21 +9,13 @@ ghost use Rattle.job.specs.Steps.{someOf, pixelsOf, stretchOf, phasePixe
 use crate::store::five;
 use crate::store::step;
 use compose::Plan;
+use compose::run::least;
 use compose::run::span;
 use pictures::flat::widen;
 use pictures::widen::rgba_at;
 
 // The pixels that are composed at a time.
 const SPAN: usize = 64;
-
-pub fn least(a: usize, b: usize) -> usize
-    ensures { λ r. ⌜ r ≡ min a b ⌝ }
-{
-    if a < b {
-        return a;
-    }
-    b
-}
 
 // Pixels from .. from + count of phase k, at the front of out: phase 0 widens the destination, a later one reads work (k - 1) mod 2.
 fn fill(

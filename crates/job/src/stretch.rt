@@ -1,17 +1,14 @@
 // The writes of an accepted call, phase by phase: each phase decodes its layer once.
 ghost use mathlib.Core.Path.{_≡_};
-ghost use Prim.Native.Nat.{_+_, _-_, _*_, _≤_};
-ghost use lib.ListN.{length};
-ghost use Rattle.compose.specs.Compose.{sourceOf};
+ghost use Prim.Native.Nat.{_+_, _-_, _*_};
 ghost use Rattle.job.specs.Memory.{memOf, positionOf};
 ghost use Rattle.job.specs.Call.{setting, runOf};
 ghost use Rattle.job.specs.Steps.{Stretch, Due};
-ghost use Rattle.places.specs.Bounds.{slack};
-use crate::phase::least;
 use crate::phase::phase;
 use compose::cell::plan;
+use compose::run::least;
+use compose::source::source_of;
 use layers::Layer;
-use layers::Source;
 
 // The layer of phase k; phase 0 has none, and is given layer 0, which it does not read.
 fn layer_of(k: usize) -> usize
@@ -21,21 +18,6 @@ fn layer_of(k: usize) -> usize
         return 0;
     }
     k - 1
-}
-
-// A layer's source, a part of the samples.
-fn source_of(samples: &[u32], source: Source) -> &[u32]
-    requires { ⌜
-        (source .first + source .width * source .height * source .channels ≤ length (now samples))
-        × (source .width ≤ slack)
-        × (source .height ≤ slack)
-        × (source .channels ≤ 4)
-        ⌝ }
-    ensures { λ r. ⌜ now r ≡ sourceOf (now (samples .entry)) source ⌝ }
-{
-    let first = source.first;
-    let last = first + source.width * source.height * source.channels;
-    &samples[first..last]
 }
 
 // Whole pixels of phase k, count of them from pixel `from` on, and the first writes of the next.
@@ -64,7 +46,7 @@ fn stretch(
 {
     let l = Layer::at(table, args, layer_of(k));
     let p = plan(l, w, h);
-    let source = source_of(samples, l.source);
+    let source = source_of(samples, l);
     phase(
         dst,
         channels,

@@ -1,9 +1,7 @@
 -- `compose::single::whole` meets its contract: the part that is lent is the source, and the plan is the layer's. Assumes nothing.
-use mathlib.Core.Path.{_≡_, _∙_, subst⁻¹}
-use Prim.Native.Nat.{_+_, _-_, _*_}
+use mathlib.Core.Path.{_∙_}
 use native.Mathlib.Omega.{arith}
-use Rattle.compose.specs.Ready.{Ready}
-use Rattle.compose.proofs.Placed.{plane, part-length, runs}
+use Rattle.compose.proofs.Placed.{plane, ready-source, runs}
 use Rattle.layers.proofs.Ranges.{channels-least, channels-most}
 use borrow.Author.Needs.{needs}
 use Rattle.compose.proofs.single.whole.Statement.{statement}
@@ -12,22 +10,14 @@ use Rattle.compose.proofs.single.whole.Tie as tie
 plan-requires : tie.Need-plan-requires
 plan-requires c κs = let s = c .before .before .before in let g = s .pre .0 in (s .pre .1, channels-least _ (g .channels), channels-most _ (g .channels))
 
-mul-end : tie.Need-mul-end
-mul-end c =
-    let g = c .before .before .before .before .before .before .pre .0 in
-    record { fits = omega (arith, plane _ _ (g .width) (g .height)) }
-
-mul-chunks-2 : tie.Need-mul-chunks-2
-mul-chunks-2 c =
-    let m = c .before .before .before .before .before .before .before .before .pre .1 in
-    record { fits = omega (arith, plane _ _ (m .dst-width) (m .dst-height)) }
+mul-chunks : tie.Need-mul-chunks
+mul-chunks c = let m = c .before .before .before .before .before .pre .1 in record { fits = omega (arith, plane _ _ (m .dst-width) (m .dst-height)) }
 
 chunks-requires : tie.Need-chunks-requires
 chunks-requires c κs =
-    let p = c .before .before .before .before .before in
-    let s = p .before .before .before .before in
-    let g = s .pre .0 in (
-      subst⁻¹ (Ready (p .plan .result)) (part-length (s .args .samples .now) _ _ (g .held)) (p .plan .ensures .1),
+    let p = c .before .before in
+    let s = p .before .before .before .before in (
+      ready-source _ _ (s .args .l) _ (s .pre .0) (c .before .source-of .ensures) (p .plan .ensures .1),
       runs (s .args .l) (s .args .dw) (s .args .dh) (s .pre .1) (p .plan .result) _ _ (p .plan .ensures .0) (s .pre .2) (s .pre .3) (s .pre .4),
       s .pre .5,
     )
@@ -35,23 +25,15 @@ chunks-requires c κs =
 returns : tie.Need-returns
 returns c =
     let k = c .before .before in
-    let s = k .before .before .before .before .before .before .before .before .before .before in
-    let e : s .args .l .source .first + s .args .l .source .width * s .args .l .source .height * s .args .l .source .channels - s .args .l .source .first ≡ s .args .l .source .width * s .args .l .source .height * s .args .l .source .channels = omega arith in
-    k .chunks .ensures ∙ rw (e, k .before .before .before .before .before .before .plan .ensures .0)
+    k .chunks .ensures ∙ rw (k .before .before .source-of .ensures, k .before .before .before .plan .ensures .0)
 
 pub whole-spec : {M : Type 1} → statement M
 whole-spec =
     tie.close
     (tie.spec
     plan-requires
-    mul-end
-    (λ c. search needs)
-    (λ c. search needs)
-    (λ c. search needs)
-    (λ c. search needs)
-    (λ c. search needs)
-    (λ c. search needs)
-    mul-chunks-2
+    (λ c κs. search needs)
+    mul-chunks
     chunks-requires
     (λ c. search needs)
     returns)

@@ -33,7 +33,7 @@ plan-requires : tie.Need-plan-requires
 plan-requires c κs = let s = (c .before .before .before .before .before .before .before .before) in let g = good c in (placed (job s) (memory s) _ (s .pre .sized) g, channels-least _ (g .channels), channels-most _ (g .channels))
 
 source-of-requires : tie.Need-source-of-requires
-source-of-requires c κs = let g = good (c .before) in (g .held, g .width, g .height, channels-most _ (g .channels))
+source-of-requires c κs = good (c .before)
 
 phase-requires : tie.Need-phase-requires
 phase-requires c κs =
