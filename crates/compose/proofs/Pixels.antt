@@ -61,8 +61,8 @@ reached p source picture channels j r b = record {
   height = r .height;
   corner-x = r .corner-x;
   corner-y = r .corner-y;
-  column = omega (arith, column-below (p .dw) (p .dh) j (b .inside), b .width);
-  row = omega (arith, row-below (p .dw) (p .dh) j (b .inside), b .height);
+  column = omega (arith, column-below (p .dw) (p .dh) j (b .inside), b .picture .width);
+  row = omega (arith, row-below (p .dw) (p .dh) j (b .inside), b .picture .height);
 }
 
 -- a spot that was found lies below the source's pixels
@@ -72,30 +72,16 @@ spot-held tile sw sh corner x y Off e = tt
 
 -- pixel i of a run
 pub at-run : (p : Plan) (picture channels from count i : ℕ) → Run p picture channels from count → i < count → Beneath p picture channels (from + i)
-at-run p picture channels from count i r h = record {
-  width = r .width;
-  height = r .height;
-  some = r .some;
-  most = r .most;
-  whole = r .whole;
-  inside = omega (arith, r .inside);
-}
+at-run p picture channels from count i r h = record { picture = r .picture; inside = omega (arith, r .inside) }
 
 -- a run's pixels are few enough to be counted
 pub run-small : (p : Plan) (picture channels from count : ℕ) → Run p picture channels from count → from + count ≤ slack * slack
-run-small p picture channels from count r = omega (arith, r .inside, mul-le-mul (r .width) (r .height))
+run-small p picture channels from count r = omega (arith, r .inside, mul-le-mul (r .picture .width) (r .picture .height))
 
 -- its words lie in the picture
 pub run-words : (p : Plan) (picture channels from count : ℕ) → Run p picture channels from count → channels * (from + count) ≤ picture
-run-words p picture channels from count r = rw (r .whole, mul-comm (p .dw * p .dh) channels) (mul-le-mul-left channels (r .inside))
+run-words p picture channels from count r = rw (r .picture .whole, mul-comm (p .dw * p .dh) channels) (mul-le-mul-left channels (r .inside))
 
 -- a part of a run
 pub run-part : (p : Plan) (picture channels total from count : ℕ) → Run p picture channels 0 total → from + count ≤ total → Run p picture channels from count
-run-part p picture channels total from count r h = record {
-  width = r .width;
-  height = r .height;
-  some = r .some;
-  most = r .most;
-  whole = r .whole;
-  inside = omega (arith, r .inside);
-}
+run-part p picture channels total from count r h = record { picture = r .picture; inside = omega (arith, r .inside) }

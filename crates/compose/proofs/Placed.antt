@@ -8,15 +8,29 @@ use lib.ListN.{length, drop, length-drop}
 use lib.Seq.{length-take-le}
 use Rattle.places.specs.Bounds.{slack, Measured}
 use Rattle.places.proofs.Anchors.{corner-x, corner-y}
+use Rattle.layers.specs.Cells.{natOf}
+use Rattle.layers.specs.Inputs.{Inputs}
 use Rattle.layers.specs.declared.Layer.{Layer}
 use Rattle.layers.specs.GoodLayers.{GoodLayer}
+use Rattle.layers.proofs.Accepted.{Accepted}
+use Rattle.layers.proofs.Ranges.{channels-least, channels-most}
 use Rattle.compose.specs.Compose.{planOf, sourceOf}
 use Rattle.compose.specs.declared.Plan.{Plan}
-use Rattle.compose.specs.Ready.{Ready, Run}
+use Rattle.compose.specs.Ready.{Ready, Picture, Run}
 
 -- a product of two sides
 pub plane : (w h : ℕ) → w ≤ slack → h ≤ slack → w * h ≤ slack * slack
 plane w h a b = mul-le-mul a b
+
+-- the destination of accepted inputs
+pub destination : (i : Inputs) → Accepted i → Picture (natOf (i .width)) (natOf (i .height)) (natOf (i .channels)) (length (i .dst))
+destination i g = record {
+  width = g .shape .wide .most;
+  height = g .shape .high .most;
+  some = channels-least _ (g .shape .deep .kind);
+  most = channels-most _ (g .shape .deep .kind);
+  whole = g .dst;
+}
 
 -- the samples of a good layer's source
 source-length : (samples : List ℕ) (l : Layer) → GoodLayer (length samples) l → length (sourceOf samples (l .source)) ≡ l .source .width * l .source .height * l .source .channels
@@ -45,15 +59,7 @@ module _ (l : Layer) (dw dh : ℕ) (m : Measured dw dh (l .source .width) (l .so
   pub planned : (p : Plan) → 1 ≤ l .source .channels → l .source .channels ≤ 4 → p ≡ planOf l dw dh → (p ≡ planOf l dw dh) × Ready p (l .source .width * l .source .height * l .source .channels)
   planned p least most e = (e, ready p e least most)
 
-  pub runs : (p : Plan) (picture channels : ℕ) → p ≡ planOf l dw dh → 1 ≤ channels → channels ≤ 4 → picture ≡ dw * dh * channels → Run p picture channels 0 (dw * dh)
-  unfolding planOf
-  runs p picture channels e a b w =
-      rw e
-      record {
-        width = m .dst-width;
-        height = m .dst-height;
-        some = a;
-        most = b;
-        whole = w;
-        inside = omega arith;
-      }
+-- the whole of a picture is a run
+pub runs : (l : Layer) (dw dh : ℕ) (p : Plan) (words channels : ℕ) → p ≡ planOf l dw dh → Picture dw dh channels words → Run p words channels 0 (dw * dh)
+unfolding planOf
+runs l dw dh p words channels e b = rw e record { picture = b; inside = omega arith }

@@ -15,20 +15,20 @@ pub record Ready (p : Plan) (source : ℕ) : Type 0 where
   pub most : p .channels ≤ 4
   pub whole : source ≡ p .width * p .height * p .channels
 
--- pixel j of the picture beneath, whose words are so many, of so many channels
-pub record Beneath (p : Plan) (picture channels j : ℕ) : Type 0 where
-  pub width : p .dw ≤ slack
-  pub height : p .dh ≤ slack
+-- a picture of dw by dh pixels and so many channels, whose words are so many
+pub record Picture (dw dh channels words : ℕ) : Type 0 where
+  pub width : dw ≤ slack
+  pub height : dh ≤ slack
   pub some : 1 ≤ channels
   pub most : channels ≤ 4
-  pub whole : picture ≡ p .dw * p .dh * channels
+  pub whole : words ≡ dw * dh * channels
+
+-- pixel j of the picture beneath, whose words are so many, of so many channels
+pub record Beneath (p : Plan) (words channels j : ℕ) : Type 0 where
+  pub picture : Picture (p .dw) (p .dh) channels words
   pub inside : j < p .dw * p .dh
 
--- a run of count pixels from pixel `from` on
-pub record Run (p : Plan) (picture channels from count : ℕ) : Type 0 where
-  pub width : p .dw ≤ slack
-  pub height : p .dh ≤ slack
-  pub some : 1 ≤ channels
-  pub most : channels ≤ 4
-  pub whole : picture ≡ p .dw * p .dh * channels
+-- a run of count pixels of it, from pixel `from` on
+pub record Run (p : Plan) (words channels from count : ℕ) : Type 0 where
+  pub picture : Picture (p .dw) (p .dh) channels words
   pub inside : from + count ≤ p .dw * p .dh

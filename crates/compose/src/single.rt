@@ -5,11 +5,10 @@ ghost use lib.IntN.{pos};
 ghost use lib.ListN.{length};
 ghost use Rattle.layers.specs.GoodLayers.{GoodLayer};
 ghost use Rattle.layers.specs.Inputs.{inputsOf};
-ghost use Rattle.places.specs.Bounds.{Measured};
 ghost use Rattle.pictures.specs.Widen.{rgbaAt, valuesOf};
 ghost use Rattle.pictures.specs.FlatWords.{flat, filled};
 ghost use Rattle.compose.specs.Compose.{composedBy, composedOf};
-ghost use Rattle.compose.specs.Ready.{Ready, Run};
+ghost use Rattle.compose.specs.Ready.{Ready, Picture, Run};
 ghost use Rattle.compose.specs.Single.{answered, composeOf};
 use crate::Plan;
 use crate::cell::plan;
@@ -69,7 +68,7 @@ fn whole(
     samples: &[u32],
     out: &mut [u32],
 )
-    requires { ⌜ (GoodLayer (length (now samples)) l) × (Measured dw dh (l .source .width) (l .source .height) (l .right) (l .down)) × (1 ≤ channels) × (channels ≤ 4) × (length (now dst) ≡ dw * dh * channels) × (length (now out) ≡ 4 * (dw * dh)) ⌝ }
+    requires { ⌜ (GoodLayer (length (now samples)) l) × (Picture dw dh channels (length (now dst))) × (length (now out) ≡ 4 * (dw * dh)) ⌝ }
     ensures { λ _. ⌜ now (out .exit) ≡ composedOf (now (samples .entry)) l dw dh channels (now (dst .entry)) ⌝ }
 {
     let p = plan(l, dw, dh);

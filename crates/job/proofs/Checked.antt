@@ -12,7 +12,7 @@ use Rattle.layers.specs.declared.Verdict.{Verdict}
 use Rattle.layers.specs.Cells.{natOf}
 use Rattle.layers.specs.Inputs.{Inputs, verdict, jobFault}
 use Rattle.layers.proofs.Accepted.{accepted, row-held, words-held}
-use Rattle.layers.proofs.Ranges.{channels-least, channels-most}
+use Rattle.compose.proofs.Placed.{destination}
 use Rattle.job.specs.Memory.{Mem, positionOf}
 use Rattle.job.specs.Job.{pixelCount, layerCount, endOf, memoryFault, callFault, acceptance, refusal}
 use Rattle.job.specs.Call.{setting, settingOf, runOf, madeOf, Outcome, acceptedOf, callOf}
@@ -118,11 +118,7 @@ module _ (i : Inputs) (m : Mem) (e : callFault i m .number ≡ 0) where
       let a = accepted i call-inputs in
       let h = call-held in
       record {
-        wide = a .shape .wide .most;
-        high = a .shape .high .most;
-        some = channels-least _ (a .shape .deep .kind);
-        most = channels-most _ (a .shape .deep .kind);
-        dst-length = a .dst;
+        picture = destination i a;
         work0-length = omega (arith, h .work0-length);
         work1-length = omega (arith, h .work1-length);
         marked = omega (arith, h .checkpoint-length);

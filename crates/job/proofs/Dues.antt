@@ -10,6 +10,7 @@ use Rattle.places.specs.Bounds.{slack, Measured}
 use Rattle.layers.specs.declared.Layer.{Layer}
 use Rattle.layers.specs.Layers.{layerAt}
 use Rattle.layers.specs.GoodLayers.{GoodLayer}
+use Rattle.layers.proofs.Accepted.{measured}
 use Rattle.pictures.specs.declared.Words.{Words}
 use Rattle.compose.specs.declared.Plan.{Plan}
 use Rattle.compose.specs.Compose.{planOf, sourceOf}
@@ -28,14 +29,7 @@ use Rattle.job.proofs.Stretches.{stretch-position, stretch-run, phase-p
 
 -- a good layer can be placed
 pub placed : (s : Setting) (m : Mem) (l : Layer) → Sized s m → GoodLayer (length (s .samples)) l → Measured (s .width) (s .height) (l .source .width) (l .source .height) (l .right) (l .down)
-placed s m l z g = record {
-  dst-width = z .wide;
-  dst-height = z .high;
-  width = g .width;
-  height = g .height;
-  offset-right = g .right;
-  offset-down = g .down;
-}
+placed s m l z g = measured _ _ _ l (z .picture .width) (z .picture .height) g
 
 pub plan-whole : (s : Setting) (m : Mem) (l : Layer) (p : Plan) (source : List ℕ) → Sized s m → GoodLayer (length (s .samples)) l → p ≡ planOf l (s .width) (s .height) → Ready p (l .source .width * l .source .height * l .source .channels) → source ≡ sourceOf (s .samples) (l .source)
     → Whole p (s .channels) (length (s .dst)) (length source) (length (m .work0)) (length (m .work1))
@@ -45,11 +39,7 @@ plan-whole s m l p source z g ep er es =
     rw ep
     record {
       ready = rw ep at r;
-      wide = z .wide;
-      high = z .high;
-      some = z .some;
-      most = z .most;
-      dst-length = z .dst-length;
+      picture = z .picture;
       work0-length = z .work0-length;
       work1-length = z .work1-length;
     }
@@ -103,18 +93,14 @@ module _ (s : Setting) (k from count rest : ℕ) (m : Mem) (l : Layer) (p : Plan
 
 pub sized-still : (s : Setting) (m m′ : Mem) → Sized s m → length (m′ .work0) ≡ length (m .work0) → length (m′ .work1) ≡ length (m .work1) → length (m′ .checkpoint) ≡ length (m .checkpoint) → Sized s m′
 sized-still s m m′ z a b d = record {
-  wide = z .wide;
-  high = z .high;
-  some = z .some;
-  most = z .most;
-  dst-length = z .dst-length;
+  picture = z .picture;
   work0-length = a ∙ z .work0-length;
   work1-length = b ∙ z .work1-length;
   marked = rw d (z .marked);
 }
 
 pub area-small : (s : Setting) (m : Mem) → Sized s m → area s ≤ slack * slack
-area-small s m z = mul-le-mul (z .wide) (z .high)
+area-small s m z = mul-le-mul (z .picture .width) (z .picture .height)
 
 -- the smaller of two numbers, where it is not the first
 other-of : (a b r : ℕ) → r ≡ min a b → r < a → r ≡ b

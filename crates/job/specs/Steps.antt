@@ -3,7 +3,6 @@ use mathlib.Core.Path.{_≡_}
 use mathlib.Core.List.{List}
 use Prim.Native.Nat.{ℕ, zero, suc, _+_, _-_, _*_, _/_, _%_, _<_, _≤_}
 use lib.ListN.{length, getD, take}
-use Rattle.places.specs.Bounds.{slack}
 use Rattle.layers.specs.GoodLayers.{GoodLayer}
 use Rattle.layers.specs.Layers.{layerAt}
 use Rattle.layers.specs.Limits.{columns, argWords}
@@ -11,7 +10,7 @@ use Rattle.pictures.specs.declared.Words.{Words}
 use Rattle.pictures.specs.Widen.{rgbaAt, valuesOf}
 use Rattle.compose.specs.declared.Plan.{Plan}
 use Rattle.compose.specs.Compose.{composedBy}
-use Rattle.compose.specs.Ready.{Ready}
+use Rattle.compose.specs.Ready.{Ready, Picture}
 use Rattle.job.specs.declared.Write.the-variants.{Checkpoint}
 use Rattle.job.specs.Memory.{Mem, positionOf, stored, fiveWrites}
 use Rattle.job.specs.Call.{Setting, area, runOf}
@@ -64,11 +63,7 @@ phasePixel dst channels p source beneath (suc k) j =
 -- what a phase asks of its plan and of the lengths of its lists: whole pictures of dw by dh pixels
 pub record Whole (p : Plan) (channels dst source work0 work1 : ℕ) : Type 0 where
   pub ready : Ready p source
-  pub wide : p .dw ≤ slack
-  pub high : p .dh ≤ slack
-  pub some : 1 ≤ channels
-  pub most : channels ≤ 4
-  pub dst-length : dst ≡ p .dw * p .dh * channels
+  pub picture : Picture (p .dw) (p .dh) channels dst
   pub work0-length : work0 ≡ p .dw * p .dh * 4
   pub work1-length : work1 ≡ p .dw * p .dh * 4
 
@@ -85,11 +80,7 @@ pub record Decodable (s : Setting) (k : ℕ) : Type 0 where
 
 -- whole pictures, a checkpoint
 pub record Sized (s : Setting) (m : Mem) : Type 0 where
-  pub wide : s .width ≤ slack
-  pub high : s .height ≤ slack
-  pub some : 1 ≤ s .channels
-  pub most : s .channels ≤ 4
-  pub dst-length : length (s .dst) ≡ area s * s .channels
+  pub picture : Picture (s .width) (s .height) (s .channels) (length (s .dst))
   pub work0-length : length (m .work0) ≡ area s * 4
   pub work1-length : length (m .work1) ≡ area s * 4
   pub marked : 0 < length (m .checkpoint)

@@ -182,11 +182,11 @@ module _ (i : Inputs) (a : Accepted i) (k : ℕ) (h : k < natOf (i .count)) wher
   pub words-held : k * argWords + argWords ≤ length (i .args)
   words-held = omega (arith, a .args)
 
--- a good layer on a destination of accepted sides can be placed
-pub measured : (i : Inputs) (a : Accepted i) (samples : ℕ) (l : Layer) → GoodLayer samples l → Measured (natOf (i .width)) (natOf (i .height)) (l .source .width) (l .source .height) (l .right) (l .down)
-measured i a samples l g = record {
-  dst-width = a .shape .wide .most;
-  dst-height = a .shape .high .most;
+-- a good layer on a destination whose sides are in bounds can be placed
+pub measured : (dw dh samples : ℕ) (l : Layer) → dw ≤ slack → dh ≤ slack → GoodLayer samples l → Measured dw dh (l .source .width) (l .source .height) (l .right) (l .down)
+measured dw dh samples l wide high g = record {
+  dst-width = wide;
+  dst-height = high;
   width = g .width;
   height = g .height;
   offset-right = g .right;

@@ -8,18 +8,18 @@ rem-map-coordinate : tie.Need-rem-map-coordinate
 rem-map-coordinate c = let b = c .before .pre in some-width _ _ _ (b .inside)
 
 map-coordinate-requires : tie.Need-map-coordinate-requires
-map-coordinate-requires c κs = let b = c .before .pre in omega (arith, column-below _ _ _ (b .inside), b .width)
+map-coordinate-requires c κs = let b = c .before .pre in omega (arith, column-below _ _ _ (b .inside), b .picture .width)
 
 div-map-coordinate : tie.Need-div-map-coordinate
 div-map-coordinate c = let b = c .before .before .pre in some-width _ _ _ (b .inside)
 
 map-coordinate-requires-2 : tie.Need-map-coordinate-requires-2
-map-coordinate-requires-2 c κs = let b = c .before .before .pre in omega (arith, row-below _ _ _ (b .inside), b .height)
+map-coordinate-requires-2 c κs = let b = c .before .before .pre in omega (arith, row-below _ _ _ (b .inside), b .picture .height)
 
 bilinear-requires : tie.Need-bilinear-requires
 bilinear-requires c κs =
     let b = c .before .before .before .pre in
-    (b .some, b .most, some-width _ _ _ (b .inside), some-height _ _ _ (b .inside), b .whole)
+    (b .picture .some, b .picture .most, some-width _ _ _ (b .inside), some-height _ _ _ (b .inside), b .picture .whole)
 
 returns : tie.Need-returns
 returns c = rw (c .bilinear .ensures, c .before .map-coordinate2 .ensures, c .before .before .map-coordinate .ensures)

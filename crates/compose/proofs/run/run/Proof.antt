@@ -73,7 +73,7 @@ row-after-requires : tie.Need-row-after-requires Inv-loop μ-loop
 row-after-requires c κs =
     let w = c .before .before .before .before .before .before in
     let l = w .before in
-    (column w, omega (arith, row-below _ _ _ (inside w), l .loop .inv .4, start l .pre .1 .height))
+    (column w, omega (arith, row-below _ _ _ (inside w), l .loop .inv .4, start l .pre .1 .picture .height))
 
 column-after-requires : tie.Need-column-after-requires Inv-loop μ-loop
 column-after-requires c κs = column (c .before .before .before .before .before .before .before)

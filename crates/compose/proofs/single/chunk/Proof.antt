@@ -13,7 +13,7 @@ use Rattle.compose.proofs.single.chunk.Tie as tie
 widen-requires : tie.Need-widen-requires
 widen-requires c κs =
     let r = c .before .before .before .before .pre in
-    (r .1 .some, r .1 .most, run-words _ _ _ _ _ (r .1), omega (arith, r .2))
+    (r .1 .picture .some, r .1 .picture .most, run-words _ _ _ _ _ (r .1), omega (arith, r .2))
 
 returns : tie.Need-returns
 returns c =

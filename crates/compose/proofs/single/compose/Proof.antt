@@ -5,16 +5,13 @@ use Prim.Native.Nat.{ℕ, _*_, _≤_}
 use native.Mathlib.Omega.{arith}
 use borrow.Author.Needs.{needs}
 use lib.IntN.{pos}
-use lib.ListN.{length}
 use mir.Facts.{toZ-ofZ}
 use Rattle.places.specs.Bounds.{slack}
 use Rattle.layers.specs.Cells.{natOf}
 use Rattle.layers.specs.Inputs.{Inputs, inputsOf, jobFault}
-use Rattle.layers.proofs.Accepted.{Accepted, accepted, measured}
-use Rattle.layers.proofs.Ranges.{channels-most}
+use Rattle.layers.proofs.Accepted.{Accepted, accepted}
 use Rattle.compose.proofs.Outcomes.{refused, unfit, composed}
-use Rattle.compose.proofs.Placed.{plane}
-use Rattle.layers.proofs.Ranges.{channels-least}
+use Rattle.compose.proofs.Placed.{plane, destination}
 use Rattle.compose.proofs.single.compose.Statement.{statement}
 use Rattle.compose.proofs.single.compose.Tie as tie
 
@@ -95,14 +92,7 @@ whole-requires c κs =
     let g = good a (n .before .before .if1 .left) in
     let e = sides n in
     let f : d .natural3 .result ≡ natOf (start a .args .channels) = rw (toZ-ofZ (start a .fits .channels)) at (d .natural3 .ensures) in
-    let l = g .layer 0 one in (
-      rw (c .before .at .ensures) l,
-      rw (c .before .at .ensures, e .wide, e .high) (measured (inputs (start a)) g _ _ l),
-      rw f (channels-least _ (g .shape .deep .kind)),
-      rw f (channels-most _ (g .shape .deep .kind)),
-      rw (e .wide, e .high, f) (g .dst),
-      d .before .if2 .left,
-    )
+    (rw (c .before .at .ensures) (g .layer 0 one), rw (e .wide, e .high, f) (destination _ g), d .before .if2 .left)
 
 returns-3 : tie.Need-returns-3
 unfolding inputs start

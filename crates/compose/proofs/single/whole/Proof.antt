@@ -2,24 +2,29 @@
 use mathlib.Core.Path.{_∙_}
 use native.Mathlib.Omega.{arith}
 use Rattle.compose.proofs.Placed.{plane, ready-source, runs}
+use Rattle.layers.proofs.Accepted.{measured}
 use Rattle.layers.proofs.Ranges.{channels-least, channels-most}
 use borrow.Author.Needs.{needs}
 use Rattle.compose.proofs.single.whole.Statement.{statement}
 use Rattle.compose.proofs.single.whole.Tie as tie
 
 plan-requires : tie.Need-plan-requires
-plan-requires c κs = let s = c .before .before .before in let g = s .pre .0 in (s .pre .1, channels-least _ (g .channels), channels-most _ (g .channels))
+plan-requires c κs =
+    let s = c .before .before .before in
+    let g = s .pre .0 in
+    let b = s .pre .1 in
+    (measured _ _ _ (s .args .l) (b .width) (b .height) g, channels-least _ (g .channels), channels-most _ (g .channels))
 
 mul-chunks : tie.Need-mul-chunks
-mul-chunks c = let m = c .before .before .before .before .before .pre .1 in record { fits = omega (arith, plane _ _ (m .dst-width) (m .dst-height)) }
+mul-chunks c = let b = c .before .before .before .before .before .pre .1 in record { fits = omega (arith, plane _ _ (b .width) (b .height)) }
 
 chunks-requires : tie.Need-chunks-requires
 chunks-requires c κs =
     let p = c .before .before in
     let s = p .before .before .before .before in (
       ready-source _ _ (s .args .l) _ (s .pre .0) (c .before .source-of .ensures) (p .plan .ensures .1),
-      runs (s .args .l) (s .args .dw) (s .args .dh) (s .pre .1) (p .plan .result) _ _ (p .plan .ensures .0) (s .pre .2) (s .pre .3) (s .pre .4),
-      s .pre .5,
+      runs (s .args .l) (s .args .dw) (s .args .dh) (p .plan .result) _ _ (p .plan .ensures .0) (s .pre .1),
+      s .pre .2,
     )
 
 returns : tie.Need-returns

@@ -15,7 +15,7 @@ widen-requires c κs =
     let s = (c .before .before .before .before .before .before .before) in
     let h = s .pre .0 in
     let n = mul-comm (s .args .channels) (s .args .from + s .args .count) in
-    (h .some, h .most, omega (arith, h .dst-length, mul-le-mul-right (s .args .channels) (s .pre .1), n), s .pre .2)
+    (h .picture .some, h .picture .most, omega (arith, h .picture .whole, mul-le-mul-right (s .args .channels) (s .pre .1), n), s .pre .2)
 
 returns : tie.Need-returns
 returns c =
