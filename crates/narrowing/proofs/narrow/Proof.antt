@@ -26,20 +26,8 @@ returns c =
     let s = c .before .before .before .before in
     answer-refused _ _ (s .args .input .now) _ (c .before .accepted .ensures) _ (toZ-ofZ (s .fits .wanted)) (c .if1 .taken)
 
-loop-holds : tie.Need-loop-holds Inv-loop μ-loop
-loop-holds c = none-written _ _ _ _ (c .before .accepted .ensures) step (c .if1 .left)
-
-narrowed-at-requires : tie.Need-narrowed-at-requires Inv-loop μ-loop
-narrowed-at-requires c κs = word-there step (c .before .loop .inv) (c .loop-test .taken)
-
-loop-less : tie.Need-loop-less Inv-loop μ-loop
-loop-less c = omega (arith, c .before .before .loop .inv .same)
-
 loop-again : tie.Need-loop-again Inv-loop μ-loop
 loop-again c = one-more step (c .before .before .loop .inv) (c .before .loop-test .taken) (c .narrowed-at .ensures)
-
-same-length : tie.Need-same-length Inv-loop μ-loop
-same-length c = c .before .loop .inv .same
 
 returns-2 : tie.Need-returns-2 Inv-loop μ-loop
 returns-2 c =
@@ -54,12 +42,12 @@ narrow-spec =
     μ-loop
     (λ c κs. search needs)
     returns
-    loop-holds
-    narrowed-at-requires
+    (λ c. none-written _ _ _ _ (c .before .accepted .ensures) step (c .if1 .left))
+    (λ c κs. word-there step (c .before .loop .inv) (c .loop-test .taken))
     (λ c. search needs)
     (λ c. search needs)
     (λ c. search needs)
-    loop-less
+    (λ c. omega (arith, c .before .before .loop .inv .same))
     loop-again
-    same-length
+    (λ c. c .before .loop .inv .same)
     returns-2)

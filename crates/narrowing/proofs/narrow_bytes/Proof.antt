@@ -27,22 +27,10 @@ returns c =
     let s = c .before .before .before .before in
     answer-refused _ _ (s .args .input .now) _ (c .before .accepted .ensures) _ (toZ-ofZ (s .fits .wanted)) (c .if1 .taken)
 
-loop-holds : tie.Need-loop-holds Inv-loop μ-loop
-loop-holds c = none-written _ _ _ _ (c .before .accepted .ensures) step (c .if1 .left)
-
-narrowed-at-requires : tie.Need-narrowed-at-requires Inv-loop μ-loop
-narrowed-at-requires c κs = word-there step (c .before .loop .inv) (c .loop-test .taken)
-
-loop-less : tie.Need-loop-less Inv-loop μ-loop
-loop-less c = omega (arith, c .before .before .before .before .loop .inv .same)
-
 loop-again : tie.Need-loop-again Inv-loop μ-loop
 loop-again c =
     let n = c .before .before in
     one-more step (n .before .before .loop .inv) (n .before .loop-test .taken) (rw (c .byte .ensures, c .before .value .ensures, n .narrowed-at .ensures))
-
-same-length : tie.Need-same-length Inv-loop μ-loop
-same-length c = c .before .loop .inv .same
 
 returns-2 : tie.Need-returns-2 Inv-loop μ-loop
 returns-2 c =
@@ -57,13 +45,13 @@ narrow-bytes-spec =
     μ-loop
     (λ c κs. search needs)
     returns
-    loop-holds
-    narrowed-at-requires
+    (λ c. none-written _ _ _ _ (c .before .accepted .ensures) step (c .if1 .left))
+    (λ c κs. word-there step (c .before .loop .inv) (c .loop-test .taken))
     (λ c κs. search needs)
     (λ c κs. search needs)
     (λ c. search needs)
     (λ c. search needs)
-    loop-less
+    (λ c. omega (arith, c .before .before .before .before .loop .inv .same))
     loop-again
-    same-length
+    (λ c. c .before .loop .inv .same)
     returns-2)
