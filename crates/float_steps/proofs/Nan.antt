@@ -1,13 +1,13 @@
 -- The one NaN: how the code tests for it, makes it and stores it. Assumes nothing.
 use mathlib.Core.Path.{_≡_, refl, sym, ap, subst, _∙_}
-use mathlib.Core.Bool.{Bool, true, false, not, _&&_}
+use mathlib.Core.Bool.{Bool, true, false, cond, not, _&&_}
 use Prim.Native.Nat.{ℕ, _*_, _%_, _<_, _≤_}
 use lib.Dec.{T}
 use lib.Ieee.{Float, nan, inf, fin, binary32, nanBits, ofBits, toBits, isNan, up, down, div, ne}
 use lib.Ieee.Bits.{nanBits-is, nanBits-above}
 use lib.Ieee.Compare.{differs-from-itself}
 use borrow.Author.Tests.{le-ltb, lt-ltb, eq-eqb}
-use Rattle.float_steps.proofs.Choice.{told}
+use Rattle.float_steps.proofs.Choice.{yes, no-yes, no-no, told}
 
 -- `v != v` is the test for a NaN
 pub ne-self : (v : Float) → ne v v ≡ isNan v
@@ -17,6 +17,17 @@ ne-self (inf true) = refl
 ne-self (inf false) = refl
 ne-self (fin true m e) = ap (λ (b : Bool). not (b && true)) (eq-eqb (m * up e * down e) (m * up e * down e) refl)
 ne-self (fin false m e) = ap (λ (b : Bool). not (b && true)) (eq-eqb (m * up e * down e) (m * up e * down e) refl)
+
+-- of two values the second where the first is a NaN; else a test decides
+module _ (a b : Float) where
+  pub of-nan : (y : Float) → ne a a ≡ true → b ≡ cond (isNan a) b y
+  of-nan y e = yes b y (sym (ne-self a) ∙ e)
+
+  pub of-second : {t : Bool} → ne a a ≡ false → t ≡ true → b ≡ cond (isNan a) b (cond t b a)
+  of-second e f = no-yes b b a (sym (ne-self a) ∙ e) f
+
+  pub of-first : {t : Bool} → ne a a ≡ false → t ≡ false → a ≡ cond (isNan a) b (cond t b a)
+  of-first e f = no-no b b a (sym (ne-self a) ∙ e) f
 
 is-nan : (v : Float) → T (isNan v) → v ≡ nan
 unfolding isNan
