@@ -124,7 +124,7 @@ module _ (i : Inputs) (m : Mem) (e : callFault i m .number ≡ 0) where
         marked = omega (arith, h .checkpoint-length);
       }
 
-  pub due : (allowance : ℕ) → Due (settingOf i) (positionOf m) (madeOf i allowance m) m
+  pub due : (allowance : ℕ) → Due (settingOf i) (positionOf m) (madeOf i allowance m) 0 m
   due allowance =
       let w = call-held .within in
       let l = min-le-right allowance (5 * (endOf i - positionOf m)) in
@@ -134,6 +134,7 @@ module _ (i : Inputs) (m : Mem) (e : callFault i m .number ≡ 0) where
         layers = λ t h. decodable i call-inputs (t / 5 / pixelCount i) (phase-within i call-inputs (t / 5) (omega arith));
         some = λ h. pos-right (layerCount i + 1) (pixelCount i) (omega arith);
         position = refl;
+        fresh = refl;
         bound = omega arith;
         ahead = ahead-of i m e (madeOf i allowance m) l;
       }
@@ -147,7 +148,7 @@ module _ (i : Inputs) (allowance : ℕ) (m : Mem) (w h n : ℕ) (ew : w ≡ natO
   pub made-is : (made : ℕ) → made ≡ min allowance (5 * ((n + 1) * (w * h) - positionOf m)) → made ≡ madeOf i allowance m
   made-is made e = e ∙ ap (λ (x : ℕ). min allowance (5 * (x - positionOf m))) end-is
 
-  pub due-is : (c made : ℕ) → c ≡ natOf (i .channels) → made ≡ madeOf i allowance m → callFault i m .number ≡ 0 → Due (setting w h c (i .dst) (i .table) (i .args) (i .samples)) (positionOf m) made m
+  pub due-is : (c made : ℕ) → c ≡ natOf (i .channels) → made ≡ madeOf i allowance m → callFault i m .number ≡ 0 → Due (setting w h c (i .dst) (i .table) (i .args) (i .samples)) (positionOf m) made 0 m
   due-is c made ec em e = rw (ew, eh, ec, em) (due i m e allowance)
 
 -- ---- the outcome

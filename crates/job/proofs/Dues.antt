@@ -19,7 +19,7 @@ use Rattle.compose.proofs.Placed.{ready-source}
 use Rattle.job.specs.Memory.{Mem, workOf, positionOf}
 use Rattle.job.specs.Call.{Setting, area, pixelOf, runOf}
 use Rattle.job.specs.Steps.{stretchOf, phasePixel, Whole, Raised, Decodable, Sized, Stretch, Due, StretchAhead}
-use Rattle.job.specs.Uses.{Ahead}
+use Rattle.job.specs.Uses.{Ahead, pixelsIn}
 use Rattle.job.proofs.Uses.{ahead-part}
 use Rattle.job.proofs.Writes.{le-or-lt}
 use Rattle.job.proofs.Runs.{run-on}
@@ -46,7 +46,7 @@ plan-whole s m l p source z g ep er es =
 
 -- ---- a stretch
 
-module _ (s : Setting) (k from count rest : ℕ) (m : Mem) (l : Layer) (p : Plan) (source : List ℕ) (h : Stretch s k from count rest m)
+module _ (s : Setting) (k from count rest turn : ℕ) (m : Mem) (l : Layer) (p : Plan) (source : List ℕ) (h : Stretch s k from count rest turn m)
     (el : l ≡ layerAt (s .table) (s .args) (k - 1)) (ep : p ≡ planOf l (s .width) (s .height)) (es : source ≡ sourceOf (s .samples) (l .source)) where
   abbrev f : ℕ → Words
   f = phasePixel (s .dst) (s .channels) p source (workOf (k - 1) m) k
@@ -71,22 +71,33 @@ module _ (s : Setting) (k from count rest : ℕ) (m : Mem) (l : Layer) (p : Plan
       done (t / 5) (t % 5) (omega (arith, h .inside, h .few)) (λ z. ⊎-elim (λ c. omega (arith, h .inside)) (λ c. omega (arith, h .room c, h .few)) (le-or-lt rest 0)) (omega arith)
       ∙ ap (λ (x : ℕ). runOf s (5 * positionOf m) x m) (omega arith))
 
+  raised : Raised k from count turn m
+  raised =
+      let n : pixelsIn m ≡ area s = omega (arith, h .sized .work0-length) in
+      record {
+        marked = h .sized .marked;
+        bound = h .bound;
+        position = h .position ∙ ap (λ (x : ℕ). k * x + from) (sym n);
+        fresh = h .fresh;
+      }
+
   -- what its phase asks
   pub phase-asks : GoodLayer (length (s .samples)) l → Ready p (l .source .width * l .source .height * l .source .channels)
       → Whole p (s .channels) (length (s .dst)) (length source) (length (m .work0)) (length (m .work1))
       × (from + count ≤ p .dw * p .dh)
       × (rest < 5)
       × (0 < rest → from + count < p .dw * p .dh)
-      × Raised count m
+      × Raised k from count turn m
       × StretchAhead k f from (5 * count + rest) m
   unfolding planOf
-  phase-asks g er = (plan-whole s m l p source (h .sized) g ep er es, rw ep (h .inside), h .few, rw ep (h .room), record { marked = h .sized .marked; bound = h .bound }, ahead)
+  phase-asks g er = (plan-whole s m l p source (h .sized) g ep er es, rw ep (h .inside), h .few, rw ep (h .room), raised, ahead)
 
   -- what it leaves
-  pub stretch-done : (m′ : Mem) → m′ ≡ stretchOf k f from count rest m → (m′ ≡ runOf s (5 * positionOf m) (5 * count + rest) m) × (positionOf m′ ≡ positionOf m + count)
-  stretch-done m′ e = (
+  pub stretch-done : (m′ : Mem) (turn′ : ℕ) → (m′ ≡ stretchOf k f from count rest m) × (turn′ ≡ rest) → (m′ ≡ runOf s (5 * positionOf m) (5 * count + rest) m) × (positionOf m′ ≡ positionOf m + count) × (turn′ ≡ rest)
+  stretch-done m′ turn′ (e, z) = (
     e ∙ done count rest (h .inside) (h .room) (omega (arith, h .few)),
     ap positionOf e ∙ stretch-position k f from count rest m (h .few) (h .sized .marked),
+    z,
   )
 
 -- ---- stretch after stretch
@@ -108,17 +119,18 @@ other-of a b r e h =
     ⊎-elim (λ l. e ∙ min-eq-right l) (λ l. let x : min a b ≡ a = min-eq-left (omega arith) in absurd (omega arith)) (le-or-lt b a)
 
 -- after `done` writes, a whole number of pixels: the stretch that is next, r writes of it
-pub record Turn (s : Setting) (start made done r : ℕ) (m₀ m : Mem) : Type 0 where
-  pub due : Due s start made m₀
+pub record Turn (s : Setting) (start made done r turn₀ turn : ℕ) (m₀ m : Mem) : Type 0 where
+  pub due : Due s start made turn₀ m₀
   pub sized : Sized s m
   pub left : done < made
   pub fives : done % 5 ≡ 0
   pub run : m ≡ runOf s (5 * start) done m₀
   pub ahead : Ahead (made - done) (λ t. runOf s (5 * start) (done + t) m₀)
   pub at : positionOf m ≡ start + done / 5
+  pub order : turn ≡ done % 5
   pub taken : r ≡ min (made - done) (5 * (area s - (start + done / 5) % area s))
 
-module _ {s : Setting} {start made done r : ℕ} {m₀ m : Mem} (u : Turn s start made done r m₀ m) where
+module _ {s : Setting} {start made done r turn₀ turn : ℕ} {m₀ m : Mem} (u : Turn s start made done r turn₀ turn m₀ m) where
   due-area : 0 < area s
   due-area = u .due .some (omega (arith, u .left))
 
@@ -137,7 +149,7 @@ module _ {s : Setting} {start made done r : ℕ} {m₀ m : Mem} (u : Turn s star
   next-run : (t : ℕ) (m′ : Mem) → m′ ≡ runOf s (5 * positionOf m) t m → m′ ≡ runOf s (5 * start) (done + t) m₀
   next-run t m′ g = run-on s (5 * start) done t m₀ m m′ (5 * positionOf m) (done + t) (u .run) (omega (arith, u .at, u .fives)) g refl
 
-  pub due-stretch : Stretch s ((start + done / 5) / area s) ((start + done / 5) % area s) (r / 5) (r % 5) m
+  pub due-stretch : Stretch s ((start + done / 5) / area s) ((start + done / 5) % area s) (r / 5) (r % 5) turn m
   due-stretch =
       let b = due-below in
       let l = due-left in
@@ -150,6 +162,7 @@ module _ {s : Setting} {start made done r : ℕ} {m₀ m : Mem} (u : Turn s star
         few = omega arith;
         room = λ p. omega arith;
         position = u .at ∙ sym (div-add-mod' (start + done / 5) (area s));
+        fresh = u .order ∙ u .fives;
         bound = omega (arith, u .due .bound, u .at, u .left, u .fives);
         ahead = ahead-part (u .ahead) 0 (5 * (r / 5) + r % 5) (omega arith) _ (λ t z. next-run t _ refl ∙ ap (λ (x : ℕ). runOf s (5 * start) (done + x) m₀) (sym (zero-add t)));
       }
@@ -166,3 +179,6 @@ module _ {s : Setting} {start made done r : ℕ} {m₀ m : Mem} (u : Turn s star
 
   pub due-position : (m′ : Mem) → positionOf m′ ≡ positionOf m + r / 5 → positionOf m′ ≡ start + (done + r) / 5
   due-position m′ g = omega (arith, u .at, u .fives)
+
+  pub due-order : (turn′ : ℕ) → turn′ ≡ r % 5 → turn′ ≡ (done + r) % 5
+  due-order turn′ g = omega (arith, u .fives)

@@ -1,5 +1,6 @@
 pub mod Writes
 pub mod Runs
+pub mod Places
 pub mod Stretches
 pub mod Flat
 pub mod Dues

@@ -207,12 +207,13 @@ pub some-of : (a b r : ℕ) → r ≡ min a b → 0 < a → 0 < b → 0 < r
 some-of a b r e ha hb = rw e (le-min ha hb)
 
 -- room for a pixel of whole pictures
-pub pixel-room : (p : Plan) (channels dst source j : ℕ) (m : Mem) → Whole p channels dst source (length (m .work0)) (length (m .work1)) → j < p .dw * p .dh → Raised 0 m → Room j m
-pixel-room p channels dst source j m h l r = record {
+pub pixel-room : (p : Plan) (channels dst source k j turn : ℕ) (m : Mem) → Whole p channels dst source (length (m .work0)) (length (m .work1)) → j < p .dw * p .dh → Raised k j 0 turn m → Room k j m
+pixel-room p channels dst source k j turn m h l r = record {
   in0 = omega (arith, h .work0-length);
   in1 = omega (arith, h .work1-length);
   marked = r .marked;
   bound = omega (arith, r .bound);
+  position = r .position;
 }
 
 -- work buffers of the same length
@@ -220,11 +221,14 @@ pub whole-still : (p : Plan) (channels dst source a b a′ b′ : ℕ) → Whole
 whole-still p channels dst source a b a′ b′ h e f = rw (e, f) h
 
 -- n pixels of the r that are in bounds further on
-pub raised-on : (k : ℕ) (f : ℕ → Words) (from n all r : ℕ) (m₀ m : Mem) → Raised all m₀ → m ≡ pixelsOf k f from n m₀ → n ≤ all → r ≤ all - n → Raised r m
-raised-on k f from n all r m₀ m h e a l =
+pub raised-on : (k : ℕ) (f : ℕ → Words) (from n all r turn turn′ : ℕ) (m₀ m : Mem) → Raised k from all turn m₀ → m ≡ pixelsOf k f from n m₀ → turn′ ≡ 0 → length (m .work0) ≡ length (m₀ .work0) → n ≤ all → r ≤ all - n → Raised k (from + n) r turn′ m
+raised-on k f from n all r turn turn′ m₀ m h e z w a l =
+    let p : positionOf m ≡ positionOf m₀ + n = ap positionOf e ∙ pixels-position k f from m₀ (h .marked) n in
     record {
       marked = rw (ap (λ (x : Mem). length (x .checkpoint)) e ∙ pixels-checkpoint k f from m₀ n) (h .marked);
-      bound = omega (arith, h .bound, ap positionOf e, pixels-position k f from m₀ (h .marked) n);
+      bound = omega (arith, h .bound);
+      position = rw w (omega (arith, h .position));
+      fresh = z;
     }
 
 -- a span: r pixels filled into a buffer from the memory that is found, after n pixels

@@ -161,7 +161,7 @@ five-checkpoint k j w m =
 -- ---- one step of the code
 
 -- the write is in range
-pub due-range : (k j : ℕ) (w : Words) (c : ℕ) (m : Mem) (word : ℕ) → Room j m → c < 4 → InRange m (wordWrite k (4 * j + c) word)
+pub due-range : (k j : ℕ) (w : Words) (c : ℕ) (m : Mem) (word : ℕ) → Room k j m → c < 4 → InRange m (wordWrite k (4 * j + c) word)
 due-range k j w c m word r h = word-range (4 * j + c) word m k (omega (arith, r .in0)) (omega (arith, r .in1))
 
 -- a word of the pixel, and the position
@@ -173,16 +173,17 @@ pub step-position : (k j : ℕ) (w : Words) (q c : ℕ) → c ≡ 4 → Checkpoi
 step-position k j w q c e = rw e
 
 -- c of the five writes have been made, from the memory m₀ on
-pub record Begun (k j : ℕ) (w : Words) (c : ℕ) (m₀ m : Mem) : Type 0 where
+pub record Begun (k j : ℕ) (w : Words) (c turn : ℕ) (m₀ m : Mem) : Type 0 where
   pub same : m ≡ someOf k j w c m₀
+  pub order : turn ≡ c % 5
   pub length0 : length (m .work0) ≡ length (m₀ .work0)
   pub length1 : length (m .work1) ≡ length (m₀ .work1)
   pub length-checkpoint : length (m .checkpoint) ≡ length (m₀ .checkpoint)
 
-pub begun-none : (k j : ℕ) (w : Words) (m : Mem) → Begun k j w 0 m m
-begun-none k j w m = record { same = some-none k j w 0 m refl; length0 = refl; length1 = refl; length-checkpoint = refl }
+pub begun-none : (k j : ℕ) (w : Words) (turn : ℕ) (m : Mem) → turn ≡ 0 → Begun k j w 0 turn m m
+begun-none k j w turn m e = record { same = some-none k j w 0 m refl; order = e; length0 = refl; length1 = refl; length-checkpoint = refl }
 
-module _ {k j : ℕ} {w : Words} {c : ℕ} {m₀ m : Mem} (h : c < 5) (g : Begun k j w c m₀ m) where
+module _ {k j : ℕ} {w : Words} {c turn : ℕ} {m₀ m : Mem} (h : c < 5) (g : Begun k j w c turn m₀ m) where
   abbrev due-write : Write
   due-write = getD (fiveWrites k j w (positionOf m + 1)) c (Checkpoint 0)
 
@@ -192,24 +193,30 @@ module _ {k j : ℕ} {w : Words} {c : ℕ} {m₀ m : Mem} (h : c < 5) (g : Begun
   one-more (suc zero) l = some-more k j w c m₀ m (put due-write m) h (g .same) refl
   one-more (suc (suc d)) l = absurd (omega arith)
 
+  still : positionOf m ≡ positionOf m₀
+  still = ap positionOf (g .same) ∙ ap (λ (l : List ℕ). getD l 0 0) (some-checkpoint k j w c m₀ h)
+
   -- the next is due
-  pub begun-due : {n : ℕ} → c < n → Room j m₀ → PixelAhead k j w n m₀ → DueWrite k j w c m
+  pub begun-due : {n : ℕ} → c < n → Room k j m₀ → PixelAhead k j w n m₀ → DueWrite k j w c turn m
   begun-due l r u = record {
     few = h;
+    order = omega (arith, g .order);
     room = record {
       in0 = rw (g .length0) (r .in0);
       in1 = rw (g .length1) (r .in1);
       marked = rw (g .length-checkpoint) (r .marked);
-      bound = rw (ap positionOf (g .same) ∙ ap (λ (l : List ℕ). getD l 0 0) (some-checkpoint k j w c m₀ h)) (r .bound);
+      bound = rw still (r .bound);
+      position = rw (still, g .length0) (r .position);
     };
     next = ahead-part u c 1 (omega arith) _ one-more;
   }
 
   -- and has been made
-  pub begun-more : (m′ : Mem) → m′ ≡ put (getD (fiveWrites k j w (positionOf m + 1)) c (Checkpoint 0)) m → length (m′ .work0) ≡ length (m .work0) → length (m′ .work1) ≡ length (m .work1) → length (m′ .checkpoint) ≡ length (m .checkpoint)
-      → Begun k j w (c + 1) m₀ m′
-  begun-more m′ e a b d = record {
-    same = some-more k j w c m₀ m m′ h (g .same) e;
+  pub begun-more : (m′ : Mem) (turn′ : ℕ) → (m′ ≡ put (getD (fiveWrites k j w (positionOf m + 1)) c (Checkpoint 0)) m) × (turn′ ≡ (c + 1) % 5) → length (m′ .work0) ≡ length (m .work0) → length (m′ .work1) ≡ length (m .work1) → length (m′ .checkpoint) ≡ length (m .checkpoint)
+      → Begun k j w (c + 1) turn′ m₀ m′
+  begun-more m′ turn′ e a b d = record {
+    same = some-more k j w c m₀ m m′ h (g .same) (e .0);
+    order = e .1;
     length0 = a ∙ g .length0;
     length1 = b ∙ g .length1;
     length-checkpoint = d ∙ g .length-checkpoint;

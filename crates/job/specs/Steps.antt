@@ -14,7 +14,7 @@ use Rattle.compose.specs.Ready.{Ready, Picture}
 use Rattle.job.specs.declared.Write.the-variants.{Checkpoint}
 use Rattle.job.specs.Memory.{Mem, positionOf, stored, fiveWrites}
 use Rattle.job.specs.Call.{Setting, area, runOf}
-use Rattle.job.specs.Uses.{Ahead, Use}
+use Rattle.job.specs.Uses.{Ahead, Use, pixelsIn}
 
 -- the first c of the five writes of pixel j of picture k, with the words w: the position is raised by one
 abbrev pub someOf : (k j : ℕ) → Words → (c : ℕ) → Mem → Mem
@@ -24,17 +24,19 @@ someOf k j w c m = stored (take c (fiveWrites k j w (positionOf m + 1))) m
 abbrev pub mostPosition : ℕ
 mostPosition = 4611686018427387904
 
--- there is room for pixel j, and for the next position
-pub record Room (j : ℕ) (m : Mem) : Type 0 where
+-- pixel j of picture k is the one at the position, and there is room for it and for the next position
+pub record Room (k j : ℕ) (m : Mem) : Type 0 where
   pub in0 : 4 * j + 3 < length (m .work0)
   pub in1 : 4 * j + 3 < length (m .work1)
   pub marked : 0 < length (m .checkpoint)
   pub bound : positionOf m < mostPosition
+  pub position : positionOf m ≡ k * pixelsIn m + j
 
--- write c of the five is due: it is the next of a call
-pub record DueWrite (k j : ℕ) (w : Words) (c : ℕ) (m : Mem) : Type 0 where
+-- write c of the five is due: it is the next of a call, and its turn has come
+pub record DueWrite (k j : ℕ) (w : Words) (c turn : ℕ) (m : Mem) : Type 0 where
   pub few : c < 5
-  pub room : Room j m
+  pub order : turn ≡ c
+  pub room : Room k j m
   pub next : Use m (getD (fiveWrites k j w (positionOf m + 1)) c (Checkpoint 0))
 
 -- the first n writes of pixel j are the next of a call
@@ -67,10 +69,12 @@ pub record Whole (p : Plan) (channels dst source work0 work1 : ℕ) : Type 0 whe
   pub work0-length : work0 ≡ p .dw * p .dh * 4
   pub work1-length : work1 ≡ p .dw * p .dh * 4
 
--- the checkpoint is there, and n positions from it are in bounds
-pub record Raised (n : ℕ) (m : Mem) : Type 0 where
+-- the position is that of pixel `from` of picture k, of which nothing has been written; n positions from it are in bounds
+pub record Raised (k from n turn : ℕ) (m : Mem) : Type 0 where
   pub marked : 0 < length (m .checkpoint)
   pub bound : positionOf m + n < mostPosition
+  pub position : positionOf m ≡ k * pixelsIn m + from
+  pub fresh : turn ≡ 0
 
 -- the layer of phase k (layer 0 for phase 0, which does not read it) can be decoded, and has no fault
 pub record Decodable (s : Setting) (k : ℕ) : Type 0 where
@@ -85,22 +89,24 @@ pub record Sized (s : Setting) (m : Mem) : Type 0 where
   pub work1-length : length (m .work1) ≡ area s * 4
   pub marked : 0 < length (m .checkpoint)
 
--- what a stretch of phase k asks: it lies in the picture, and the position is at its start
-pub record Stretch (s : Setting) (k from count rest : ℕ) (m : Mem) : Type 0 where
+-- what a stretch of phase k asks: it lies in the picture, and the position is at its start, a pixel of which nothing has been written
+pub record Stretch (s : Setting) (k from count rest turn : ℕ) (m : Mem) : Type 0 where
   pub sized : Sized s m
   pub decodable : Decodable s k
   pub inside : from + count ≤ area s
   pub few : rest < 5
   pub room : 0 < rest → from + count < area s
   pub position : positionOf m ≡ k * area s + from
+  pub fresh : turn ≡ 0
   pub bound : positionOf m + count < mostPosition
   pub ahead : Ahead (5 * count + rest) (λ t. runOf s (5 * positionOf m) t m)
 
 -- what the writes of a call ask: so many from the position on
-pub record Due (s : Setting) (start made : ℕ) (m : Mem) : Type 0 where
+pub record Due (s : Setting) (start made turn : ℕ) (m : Mem) : Type 0 where
   pub sized : Sized s m
   pub layers : (t : ℕ) → t < 5 * start + made → Decodable s (t / 5 / area s)
   pub some : 0 < made → 0 < area s
   pub position : positionOf m ≡ start
+  pub fresh : turn ≡ 0
   pub bound : 5 * start + made < mostPosition
   pub ahead : Ahead made (λ t. runOf s (5 * start) t m)

@@ -1,11 +1,14 @@
--- What holds in the middle of a call (document 01: "cut after any number of stores"): the writes ahead are the next of that call. Definitions only.
+-- What holds in the middle of a call (document 01: "cut after any number of stores"): the writes ahead are the next of that call, and each goes to the
+-- one place that is next. Definitions only.
 use mathlib.Core.Path.{_≡_}
-use mathlib.Core.List.{[], _∷_}
-use Prim.Native.Nat.{ℕ, _+_, _-_, _*_, _≤_}
-use lib.ListN.{take}
+use mathlib.Core.List.{List, [], _∷_}
+use Prim.Native.Nat.{ℕ, _+_, _-_, _*_, _/_, _%_, _<_, _≤_}
+use lib.ListN.{length, getD, take}
 use Rattle.layers.specs.Inputs.{Inputs}
+use Rattle.pictures.specs.declared.Words.{Words}
 use Rattle.job.specs.declared.Write.{Write}
-use Rattle.job.specs.Memory.{Mem, positionOf, stored}
+use Rattle.job.specs.declared.Write.the-variants.{Work0, Work1, Checkpoint}
+use Rattle.job.specs.Memory.{Mem, positionOf, put, InRange, stored, fiveWrites}
 use Rattle.job.specs.Job.{endOf, callFault}
 use Rattle.job.specs.Call.{callOf}
 
@@ -22,3 +25,40 @@ pub record Ahead (n : ℕ) (after : ℕ → Mem) : Type 0 where
 -- one write: memory before it is what a call allowed `made` leaves, and after it what the same call, allowed one more, leaves
 abbrev pub Use : Mem → Write → Type 0
 Use m w = Ahead 1 (λ c. stored (take c (w ∷ [])) m)
+
+-- ---- the order of the uses
+
+-- `Use` says that a write is the next of some call, and not of which. Where it may go is therefore read from what is in hand: from the memory, whose
+-- checkpoint has the position, and from `turn`, which of the five writes of the pixel at that position is next: 0 red, 1 green, 2 blue, 3 alpha, 4 the
+-- position. Only `store` changes the two, and each use moves them on, so that nothing is written twice or out of its order.
+
+-- a write without its word: where it goes; the number of a position is part of that
+abbrev pub placeOf : Write → Write
+placeOf (Work0 at word) = Work0 at 0
+placeOf (Work1 at word) = Work1 at 0
+placeOf (Checkpoint position) = Checkpoint position
+
+-- the pixels of a picture, by the room that a work buffer has
+abbrev pub pixelsIn : Mem → ℕ
+pixelsIn m = length (m .work0) / 4
+
+-- a pixel of this word alone
+abbrev pub wordsOf : ℕ → Words
+wordsOf word = record { r = word; g = word; b = word; a = word }
+
+-- where the next write goes: write `turn` of the pixel at the position
+unfoldable pub placeAt : Mem → (turn : ℕ) → Write
+placeAt m turn = getD (fiveWrites (positionOf m / pixelsIn m) (positionOf m % pixelsIn m) (wordsOf 0) (positionOf m + 1)) turn (Checkpoint 0)
+
+-- which is next after a write
+abbrev pub turnAfter : Write → ℕ → ℕ
+turnAfter (Work0 at word) turn = turn + 1
+turnAfter (Work1 at word) turn = turn + 1
+turnAfter (Checkpoint position) turn = 0
+
+-- what `store` asks of each use
+pub record NextUse (turn : ℕ) (m : Mem) (w : Write) : Type 0 where
+  pub range : InRange m w
+  pub serves : Use m w
+  pub few : turn < 5
+  pub place : placeOf w ≡ placeAt m turn

@@ -91,6 +91,7 @@ fn accepted(
     let start = checkpoint[0] as usize;
     let left = 5 * (end - start);
     let made = least(allowance as usize, left);
+    let mut turn = 0u64;
     writes(
         w,
         h,
@@ -104,6 +105,7 @@ fn accepted(
         work0,
         work1,
         checkpoint,
+        &mut turn,
     );
     let finished = checkpoint[0] as usize == end;
     Answer {

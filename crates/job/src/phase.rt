@@ -60,23 +60,25 @@ fn write_out(
     work0: &mut [u32],
     work1: &mut [u32],
     checkpoint: &mut [u64],
+    turn: &mut u64,
 )
     requires { ⌜
         (4 * count ≤ length (now buf))
         × (4 * (from + count) ≤ length (now work0))
         × (4 * (from + count) ≤ length (now work1))
-        × (Raised count (memOf (now work0) (now work1) (now checkpoint)))
+        × (Raised k from count (now turn) (memOf (now work0) (now work1) (now checkpoint)))
         × (StretchAhead k (λ j. rgbaAt (now buf) 4 (j - from)) from (5 * count) (memOf (now work0) (now work1) (now checkpoint)))
         ⌝ }
     ensures { λ _. ⌜
-        memOf (now (work0 .exit)) (now (work1 .exit)) (now (checkpoint .exit))
-        ≡ pixelsOf k (λ j. rgbaAt (now (buf .entry)) 4 (j - from)) from count (memOf (now (work0 .entry)) (now (work1 .entry)) (now (checkpoint .entry)))
+        (memOf (now (work0 .exit)) (now (work1 .exit)) (now (checkpoint .exit))
+        ≡ pixelsOf k (λ j. rgbaAt (now (buf .entry)) 4 (j - from)) from count (memOf (now (work0 .entry)) (now (work1 .entry)) (now (checkpoint .entry))))
+        × (now (turn .exit) ≡ 0)
         ⌝ }
 {
     let mut i = 0;
     while i < count {
         let w = rgba_at(buf, 4, i);
-        five(work0, work1, checkpoint, k, from + i, w);
+        five(work0, work1, checkpoint, turn, k, from + i, w);
         i += 1;
     }
 }
@@ -93,16 +95,18 @@ fn spans(
     work0: &mut [u32],
     work1: &mut [u32],
     checkpoint: &mut [u64],
+    turn: &mut u64,
 )
     requires { ⌜
         (Whole p channels (length (now dst)) (length (now source)) (length (now work0)) (length (now work1)))
         × (from + count ≤ p .dw * p .dh)
-        × (Raised count (memOf (now work0) (now work1) (now checkpoint)))
+        × (Raised k from count (now turn) (memOf (now work0) (now work1) (now checkpoint)))
         × (StretchAhead k (phasePixel (now dst) channels p (now source) (workOf (k - 1) (memOf (now work0) (now work1) (now checkpoint))) k) from (5 * count) (memOf (now work0) (now work1) (now checkpoint)))
         ⌝ }
     ensures { λ _. ⌜
-        memOf (now (work0 .exit)) (now (work1 .exit)) (now (checkpoint .exit))
-        ≡ pixelsOf k (phasePixel (now (dst .entry)) channels p (now (source .entry)) (workOf (k - 1) (memOf (now (work0 .entry)) (now (work1 .entry)) (now (checkpoint .entry)))) k) from count (memOf (now (work0 .entry)) (now (work1 .entry)) (now (checkpoint .entry)))
+        (memOf (now (work0 .exit)) (now (work1 .exit)) (now (checkpoint .exit))
+        ≡ pixelsOf k (phasePixel (now (dst .entry)) channels p (now (source .entry)) (workOf (k - 1) (memOf (now (work0 .entry)) (now (work1 .entry)) (now (checkpoint .entry)))) k) from count (memOf (now (work0 .entry)) (now (work1 .entry)) (now (checkpoint .entry))))
+        × (now (turn .exit) ≡ 0)
         ⌝ }
 {
     let mut buf = [0u32; 256];
@@ -121,7 +125,7 @@ fn spans(
             work1,
             &mut buf,
         );
-        write_out(&buf, k, from + i, m, work0, work1, checkpoint);
+        write_out(&buf, k, from + i, m, work0, work1, checkpoint, turn);
         i += m;
     }
 }
@@ -138,17 +142,19 @@ fn tail(
     work0: &mut [u32],
     work1: &mut [u32],
     checkpoint: &mut [u64],
+    turn: &mut u64,
 )
     requires { ⌜
         (Whole p channels (length (now dst)) (length (now source)) (length (now work0)) (length (now work1)))
         × (count < 5)
         × (0 < count → j < p .dw * p .dh)
-        × (Raised 0 (memOf (now work0) (now work1) (now checkpoint)))
+        × (Raised k j 0 (now turn) (memOf (now work0) (now work1) (now checkpoint)))
         × (PixelAhead k j (phasePixel (now dst) channels p (now source) (workOf (k - 1) (memOf (now work0) (now work1) (now checkpoint))) k j) count (memOf (now work0) (now work1) (now checkpoint)))
         ⌝ }
     ensures { λ _. ⌜
-        memOf (now (work0 .exit)) (now (work1 .exit)) (now (checkpoint .exit))
-        ≡ someOf k j (phasePixel (now (dst .entry)) channels p (now (source .entry)) (workOf (k - 1) (memOf (now (work0 .entry)) (now (work1 .entry)) (now (checkpoint .entry)))) k j) count (memOf (now (work0 .entry)) (now (work1 .entry)) (now (checkpoint .entry)))
+        (memOf (now (work0 .exit)) (now (work1 .exit)) (now (checkpoint .exit))
+        ≡ someOf k j (phasePixel (now (dst .entry)) channels p (now (source .entry)) (workOf (k - 1) (memOf (now (work0 .entry)) (now (work1 .entry)) (now (checkpoint .entry)))) k j) count (memOf (now (work0 .entry)) (now (work1 .entry)) (now (checkpoint .entry))))
+        × (now (turn .exit) ≡ count)
         ⌝ }
 {
     if count == 0 {
@@ -159,7 +165,7 @@ fn tail(
     let w = rgba_at(&one, 4, 0);
     let mut c = 0;
     while c < count {
-        step(work0, work1, checkpoint, k, j, w, c);
+        step(work0, work1, checkpoint, turn, k, j, w, c);
         c += 1;
     }
 }
@@ -177,18 +183,20 @@ pub fn phase(
     work0: &mut [u32],
     work1: &mut [u32],
     checkpoint: &mut [u64],
+    turn: &mut u64,
 )
     requires { ⌜
         (Whole p channels (length (now dst)) (length (now source)) (length (now work0)) (length (now work1)))
         × (from + count ≤ p .dw * p .dh)
         × (rest < 5)
         × (0 < rest → from + count < p .dw * p .dh)
-        × (Raised count (memOf (now work0) (now work1) (now checkpoint)))
+        × (Raised k from count (now turn) (memOf (now work0) (now work1) (now checkpoint)))
         × (StretchAhead k (phasePixel (now dst) channels p (now source) (workOf (k - 1) (memOf (now work0) (now work1) (now checkpoint))) k) from (5 * count + rest) (memOf (now work0) (now work1) (now checkpoint)))
         ⌝ }
     ensures { λ _. ⌜
-        memOf (now (work0 .exit)) (now (work1 .exit)) (now (checkpoint .exit))
-        ≡ stretchOf k (phasePixel (now (dst .entry)) channels p (now (source .entry)) (workOf (k - 1) (memOf (now (work0 .entry)) (now (work1 .entry)) (now (checkpoint .entry)))) k) from count rest (memOf (now (work0 .entry)) (now (work1 .entry)) (now (checkpoint .entry)))
+        (memOf (now (work0 .exit)) (now (work1 .exit)) (now (checkpoint .exit))
+        ≡ stretchOf k (phasePixel (now (dst .entry)) channels p (now (source .entry)) (workOf (k - 1) (memOf (now (work0 .entry)) (now (work1 .entry)) (now (checkpoint .entry)))) k) from count rest (memOf (now (work0 .entry)) (now (work1 .entry)) (now (checkpoint .entry))))
+        × (now (turn .exit) ≡ rest)
         ⌝ }
 {
     spans(
@@ -202,6 +210,7 @@ pub fn phase(
         work0,
         work1,
         checkpoint,
+        turn,
     );
     tail(
         dst,
@@ -214,5 +223,6 @@ pub fn phase(
         work0,
         work1,
         checkpoint,
+        turn,
     );
 }

@@ -1,6 +1,6 @@
 // The writes of an accepted call, phase by phase: each phase decodes its layer once.
 ghost use mathlib.Core.Path.{_≡_};
-ghost use Prim.Native.Nat.{_+_, _-_, _*_};
+ghost use Prim.Native.Nat.{_+_, _-_, _*_, _%_};
 ghost use Rattle.job.specs.Memory.{memOf, positionOf};
 ghost use Rattle.job.specs.Call.{setting, runOf};
 ghost use Rattle.job.specs.Steps.{Stretch, Due};
@@ -36,12 +36,14 @@ fn stretch(
     work0: &mut [u32],
     work1: &mut [u32],
     checkpoint: &mut [u64],
+    turn: &mut u64,
 )
-    requires { ⌜ Stretch (setting w h channels (now dst) (now table) (now args) (now samples)) k from count rest (memOf (now work0) (now work1) (now checkpoint)) ⌝ }
+    requires { ⌜ Stretch (setting w h channels (now dst) (now table) (now args) (now samples)) k from count rest (now turn) (memOf (now work0) (now work1) (now checkpoint)) ⌝ }
     ensures { λ _. ⌜
         (memOf (now (work0 .exit)) (now (work1 .exit)) (now (checkpoint .exit))
         ≡ runOf (setting w h channels (now (dst .entry)) (now (table .entry)) (now (args .entry)) (now (samples .entry))) (5 * positionOf (memOf (now (work0 .entry)) (now (work1 .entry)) (now (checkpoint .entry)))) (5 * count + rest) (memOf (now (work0 .entry)) (now (work1 .entry)) (now (checkpoint .entry))))
         × (positionOf (memOf (now (work0 .exit)) (now (work1 .exit)) (now (checkpoint .exit))) ≡ positionOf (memOf (now (work0 .entry)) (now (work1 .entry)) (now (checkpoint .entry))) + count)
+        × (now (turn .exit) ≡ rest)
         ⌝ }
 {
     let l = Layer::at(table, args, layer_of(k));
@@ -59,6 +61,7 @@ fn stretch(
         work0,
         work1,
         checkpoint,
+        turn,
     );
 }
 
@@ -76,11 +79,13 @@ pub fn writes(
     work0: &mut [u32],
     work1: &mut [u32],
     checkpoint: &mut [u64],
+    turn: &mut u64,
 )
-    requires { ⌜ Due (setting w h channels (now dst) (now table) (now args) (now samples)) start made (memOf (now work0) (now work1) (now checkpoint)) ⌝ }
+    requires { ⌜ Due (setting w h channels (now dst) (now table) (now args) (now samples)) start made (now turn) (memOf (now work0) (now work1) (now checkpoint)) ⌝ }
     ensures { λ _. ⌜
-        memOf (now (work0 .exit)) (now (work1 .exit)) (now (checkpoint .exit))
-        ≡ runOf (setting w h channels (now (dst .entry)) (now (table .entry)) (now (args .entry)) (now (samples .entry))) (5 * start) made (memOf (now (work0 .entry)) (now (work1 .entry)) (now (checkpoint .entry)))
+        (memOf (now (work0 .exit)) (now (work1 .exit)) (now (checkpoint .exit))
+        ≡ runOf (setting w h channels (now (dst .entry)) (now (table .entry)) (now (args .entry)) (now (samples .entry))) (5 * start) made (memOf (now (work0 .entry)) (now (work1 .entry)) (now (checkpoint .entry))))
+        × (now (turn .exit) ≡ made % 5)
         ⌝ }
 {
     let n = w * h;
@@ -105,6 +110,7 @@ pub fn writes(
             work0,
             work1,
             checkpoint,
+            turn,
         );
         done += m;
     }

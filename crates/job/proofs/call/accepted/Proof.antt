@@ -56,16 +56,16 @@ mul-left c = rw (wide (c .before .before .before), high (c .before .before), man
 
 writes-requires : tie.Need-writes-requires
 writes-requires c κs =
-    let s = start (c .before .before .before .before .before .before .before .before) in
-    due-is (inputs (c .before .before .before .before .before .before .before .before)) (s .args .allowance) (memOf (s .args .work0 .now) (s .args .work1 .now) (s .args .checkpoint .now)) _ _ _ (wide (c .before .before .before .before .before .before .before .before)) (high (c .before .before .before .before .before .before .before)) (many (c .before .before .before .before .before .before)) _ _ (deep (c .before .before .before)) (made (c .before .before .before .before)) (s .pre)
+    let s = start (c .before .before .before .before .before .before .before .before .before) in
+    due-is (inputs (c .before .before .before .before .before .before .before .before .before)) (s .args .allowance) (memOf (s .args .work0 .now) (s .args .work1 .now) (s .args .checkpoint .now)) _ _ _ (wide (c .before .before .before .before .before .before .before .before .before)) (high (c .before .before .before .before .before .before .before .before)) (many (c .before .before .before .before .before .before .before)) _ _ (deep (c .before .before .before .before)) (made (c .before .before .before .before .before)) (s .pre)
 
 slice-read-finished : tie.Need-slice-read-finished
-slice-read-finished c = let s = start (c .before .before .before .before .before .before .before .before .before .before .before .before .before .before .before .before) in omega (arith, call-held (inputs (c .before .before .before .before .before .before .before .before .before .before .before .before .before .before .before .before)) (memOf (s .args .work0 .now) (s .args .work1 .now) (s .args .checkpoint .now)) (s .pre) .checkpoint-length, c .before .before .before .before .before .before .before .writes .kept .1 .1 .1 .1 .1 .1 .1 .1 .1 .1 .1 .0)
+slice-read-finished c = let s = start (c .before .before .before .before .before .before .before .before .before .before .before .before .before .before .before .before .before) in omega (arith, call-held (inputs (c .before .before .before .before .before .before .before .before .before .before .before .before .before .before .before .before .before)) (memOf (s .args .work0 .now) (s .args .work1 .now) (s .args .checkpoint .now)) (s .pre) .checkpoint-length, c .before .before .before .before .before .before .before .writes .kept .1 .1 .1 .1 .1 .1 .1 .1 .1 .1 .1 .0)
 
 returns : tie.Need-returns
 returns c =
-    let s = start (c .before .before .before .before .before .before .before .before .before .before .before .before .before .before .before .before) in
-    call-accepted (inputs (c .before .before .before .before .before .before .before .before .before .before .before .before .before .before .before .before)) (s .args .allowance) (memOf (s .args .work0 .now) (s .args .work1 .now) (s .args .checkpoint .now)) _ _ _ _ _ _ _ (wide (c .before .before .before .before .before .before .before .before .before .before .before .before .before .before .before .before)) (high (c .before .before .before .before .before .before .before .before .before .before .before .before .before .before .before)) (deep (c .before .before .before .before .before .before .before .before .before .before .before)) refl (made (c .before .before .before .before .before .before .before .before .before .before .before .before)) (c .before .before .before .before .before .before .before .writes .ensures) (ap (eqb _) (end-is (inputs (c .before .before .before .before .before .before .before .before .before .before .before .before .before .before .before .before)) (s .args .allowance) (memOf (s .args .work0 .now) (s .args .work1 .now) (s .args .checkpoint .now)) _ _ _ (wide (c .before .before .before .before .before .before .before .before .before .before .before .before .before .before .before .before)) (high (c .before .before .before .before .before .before .before .before .before .before .before .before .before .before .before)) (many (c .before .before .before .before .before .before .before .before .before .before .before .before .before .before))))
+    let s = start (c .before .before .before .before .before .before .before .before .before .before .before .before .before .before .before .before .before) in
+    call-accepted (inputs (c .before .before .before .before .before .before .before .before .before .before .before .before .before .before .before .before .before)) (s .args .allowance) (memOf (s .args .work0 .now) (s .args .work1 .now) (s .args .checkpoint .now)) _ _ _ _ _ _ _ (wide (c .before .before .before .before .before .before .before .before .before .before .before .before .before .before .before .before .before)) (high (c .before .before .before .before .before .before .before .before .before .before .before .before .before .before .before .before)) (deep (c .before .before .before .before .before .before .before .before .before .before .before .before)) refl (made (c .before .before .before .before .before .before .before .before .before .before .before .before .before)) (c .before .before .before .before .before .before .before .writes .ensures .0) (ap (eqb _) (end-is (inputs (c .before .before .before .before .before .before .before .before .before .before .before .before .before .before .before .before .before)) (s .args .allowance) (memOf (s .args .work0 .now) (s .args .work1 .now) (s .args .checkpoint .now)) _ _ _ (wide (c .before .before .before .before .before .before .before .before .before .before .before .before .before .before .before .before .before)) (high (c .before .before .before .before .before .before .before .before .before .before .before .before .before .before .before .before)) (many (c .before .before .before .before .before .before .before .before .before .before .before .before .before .before .before))))
 
 pub accepted-spec : {M : Type 1} → statement M
 accepted-spec =

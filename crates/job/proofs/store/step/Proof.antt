@@ -1,12 +1,13 @@
 -- `job::store::step` meets its contract: a word of the pixel, or the position. Assumes nothing.
-use mathlib.Core.Path.{_≡_, ap, _∙_, subst⁻¹}
-use Prim.Native.Nat.{_+_}
+use mathlib.Core.Path.{_≡_, sym, ap, _∙_, subst⁻¹}
+use Prim.Native.Nat.{_+_, _<_, _≤_}
 use lib.ListN.{getD}
 use Rattle.job.specs.declared.Write.{Write}
 use Rattle.job.specs.declared.Write.the-variants.{Checkpoint}
 use Rattle.job.specs.Memory.{Mem, memOf, put, InRange, fiveWrites, positionOf}
-use Rattle.job.specs.Uses.{Use}
+use Rattle.job.specs.Uses.{Use, placeOf, turnAfter, NextUse}
 use Rattle.job.proofs.Writes.{due-range, step-word, step-position}
+use Rattle.job.proofs.Places.{due-place, word-turn}
 use borrow.Author.Needs.{needs}
 use native.Mathlib.Omega.{arith}
 use Rattle.job.proofs.store.step.Statement.{statement}
@@ -15,27 +16,54 @@ use Rattle.job.proofs.store.step.Tie as tie
 abbrev memory : tie.Start → Mem
 memory s = memOf (s .args .work0 .now) (s .args .work1 .now) (s .args .checkpoint .now)
 
--- the write is write c of the five
-written : (c : tie.After-word-write) → let s = c .before .before .before .before .before .before .before .before .before in c .word-write .result ≡ getD (fiveWrites (s .args .k) (s .args .j) (s .args .w) (positionOf (memory s) + 1)) (s .args .c) (Checkpoint 0)
-written c = let s = c .before .before .before .before .before .before .before .before .before in c .word-write .ensures ∙ step-word (s .args .k) (s .args .j) (s .args .w) _ (s .args .c) _ (c .before .before .before .before .before .if1 .taken) (c .before .channel .ensures)
+-- write c of the five
+abbrev due : tie.Start → Write
+due s = getD (fiveWrites (s .args .k) (s .args .j) (s .args .w) (positionOf (memory s) + 1)) (s .args .c) (Checkpoint 0)
+
+-- it may be made
+next : (s : tie.Start) (w : Write) → w ≡ due s → InRange (memory s) w → NextUse (s .args .turn .now) (memory s) w
+next s w e h = record {
+  range = h;
+  serves = subst⁻¹ (λ (x : Write). Use (memory s) x) e (s .pre .next);
+  few = omega (arith, s .pre .few, s .pre .order);
+  place = ap placeOf e ∙ due-place (s .args .k) (s .args .j) (s .args .w) (s .args .c) (s .args .turn .now) (memory s) (s .pre .room) (s .pre .order);
+}
+
+-- a word is write c of the five
+abbrev start : tie.After-word-write → tie.Start
+start c = c .before .before .before .before .before .before .before .before .before .before
+
+few : (c : tie.After-word-write) → start c .args .c < 4
+few c = c .before .before .before .before .before .before .if1 .taken
+
+written : (c : tie.After-word-write) → c .word-write .result ≡ due (start c)
+written c = let s = start c in c .word-write .ensures ∙ step-word (s .args .k) (s .args .j) (s .args .w) _ (s .args .c) _ (few c) (c .before .channel .ensures)
+
+-- and so is the position
+last : (s : tie.Start) → 4 ≤ s .args .c → Checkpoint (positionOf (memory s) + 1) ≡ due s
+last s h = step-position (s .args .k) (s .args .j) (s .args .w) _ (s .args .c) (omega (arith, s .pre .few, h))
 
 store-requires : tie.Need-store-requires
 store-requires c κs =
-    let s = (c .before .before .before .before .before .before .before .before .before) in
-    (subst⁻¹ (InRange (memory s)) (c .word-write .ensures) (due-range (s .args .k) (s .args .j) (s .args .w) (s .args .c) (memory s) _ (s .pre .room) (c .before .before .before .before .before .if1 .taken)), subst⁻¹ (Use (memory s)) (written c) (s .pre .next))
+    let s = start c in
+    next s _ (written c) (subst⁻¹ (InRange (memory s)) (c .word-write .ensures) (due-range (s .args .k) (s .args .j) (s .args .w) (s .args .c) (memory s) _ (s .pre .room) (few c)))
 
 returns : tie.Need-returns
 returns c =
-    let s = (c .before .before .before .before .before .before .before .before .before .before .before .before .before .before .before .before) in
-    c .before .before .before .before .before .before .store .ensures ∙ ap (λ (x : Write). put x (memory s)) (written (c .before .before .before .before .before .before .before))
+    let d = c .before .before .before .before .before .before .before in
+    let s = start d in
+    let e = c .before .before .before .before .before .before .store .ensures in
+    (e .0 ∙ ap (λ (x : Write). put x (memory s)) (written d), e .1 ∙ ap (λ (x : Write). turnAfter x (s .args .turn .now)) (d .word-write .ensures) ∙ word-turn (s .args .k) _ _ (s .args .c) (s .args .turn .now) (few d) (s .pre .order))
 
 store-requires-2 : tie.Need-store-requires-2
-store-requires-2 c κs = let s = (c .before .before .before .before .before .before .before .before) in (s .pre .room .marked, subst⁻¹ (Use (memory s)) (step-position (s .args .k) (s .args .j) (s .args .w) _ (s .args .c) (omega (arith, s .pre .few, c .before .before .before .before .if1 .left))) (s .pre .next))
+store-requires-2 c κs = let s = (c .before .before .before .before .before .before .before .before .before) in next s _ (last s (c .before .before .before .before .before .if1 .left)) (s .pre .room .marked)
 
 returns-2 : tie.Need-returns-2
 returns-2 c =
-    let s = (c .before .before .before .before .before .before .before .before .before .before .before .before .before .before .before) in
-    c .before .before .before .before .before .before .store2 .ensures ∙ ap (λ (x : Write). put x (memory s)) (step-position (s .args .k) (s .args .j) (s .args .w) _ (s .args .c) (omega (arith, s .pre .few, c .before .before .before .before .before .before .before .before .before .before .before .if1 .left)))
+    let s = (c .before .before .before .before .before .before .before .before .before .before .before .before .before .before .before .before) in
+    let h = c .before .before .before .before .before .before .before .before .before .before .before .before .if1 .left in
+    let e = c .before .before .before .before .before .before .store2 .ensures in
+    (e .0 ∙ ap (λ (x : Write). put x (memory s)) (last s h), e .1 ∙ omega (arith, s .pre .few, h))
 
 pub step-spec : {M : Type 1} → statement M
 step-spec =

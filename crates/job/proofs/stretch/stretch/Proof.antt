@@ -37,15 +37,15 @@ source-of-requires c κs = good (c .before)
 
 phase-requires : tie.Need-phase-requires
 phase-requires c κs =
-    let s = (c .before .before .before .before .before .before .before .before .before .before .before .before .before) in
-    phase-asks (job s) (s .args .k) (s .args .from) (s .args .count) (s .args .rest) (memory s) (c .before .before .before .before .before .at .result) (c .before .before .before .before .plan .result) _
-    (s .pre) (layer (c .before .before .before .before .before)) (c .before .before .before .before .plan .ensures .0) (c .before .before .before .source-of .ensures) (good (c .before .before .before .before .before)) (c .before .before .before .before .plan .ensures .1)
+    let s = (c .before .before .before .before .before .before .before .before .before .before .before .before .before .before) in
+    phase-asks (job s) (s .args .k) (s .args .from) (s .args .count) (s .args .rest) (s .args .turn .now) (memory s) (c .before .before .before .before .before .before .at .result) (c .before .before .before .before .before .plan .result) _
+    (s .pre) (layer (c .before .before .before .before .before .before)) (c .before .before .before .before .before .plan .ensures .0) (c .before .before .before .before .source-of .ensures) (good (c .before .before .before .before .before .before)) (c .before .before .before .before .before .plan .ensures .1)
 
 returns : tie.Need-returns
 returns c =
-    let s = (c .before .before .before .before .before .before .before .before .before .before .before .before .before .before .before .before .before .before .before .before) in
-    stretch-done (job s) (s .args .k) (s .args .from) (s .args .count) (s .args .rest) (memory s) (c .before .before .before .before .before .before .before .before .before .before .before .before .at .result) (c .before .before .before .before .before .before .before .before .before .before .before .plan .result) _
-    (s .pre) (layer (c .before .before .before .before .before .before .before .before .before .before .before .before)) (c .before .before .before .before .before .before .before .before .before .before .before .plan .ensures .0) (c .before .before .before .before .before .before .before .before .before .before .source-of .ensures) _ (c .before .before .before .before .before .before .phase .ensures)
+    let s = (c .before .before .before .before .before .before .before .before .before .before .before .before .before .before .before .before .before .before .before .before .before) in
+    stretch-done (job s) (s .args .k) (s .args .from) (s .args .count) (s .args .rest) (s .args .turn .now) (memory s) (c .before .before .before .before .before .before .before .before .before .before .before .before .before .at .result) (c .before .before .before .before .before .before .before .before .before .before .before .before .plan .result) _
+    (s .pre) (layer (c .before .before .before .before .before .before .before .before .before .before .before .before .before)) (c .before .before .before .before .before .before .before .before .before .before .before .before .plan .ensures .0) (c .before .before .before .before .before .before .before .before .before .before .before .source-of .ensures) _ _ (c .before .before .before .before .before .before .phase .ensures)
 
 pub stretch-spec : {M : Type 1} → statement M
 stretch-spec =
