@@ -8,5 +8,6 @@ pub mod Checked
 pub mod Blocks
 pub mod Sequence
 pub mod Progress
+pub mod Order
 pub mod Demand
 pub mod Uses

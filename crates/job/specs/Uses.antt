@@ -30,7 +30,8 @@ Use m w = Ahead 1 (λ c. stored (take c (w ∷ [])) m)
 
 -- `Use` says that a write is the next of some call, and not of which. Where it may go is therefore read from what is in hand: from the memory, whose
 -- checkpoint has the position, and from `turn`, which of the five writes of the pixel at that position is next: 0 red, 1 green, 2 blue, 3 alpha, 4 the
--- position. Only `store` changes the two, and each use moves them on, so that nothing is written twice or out of its order.
+-- position. Only `store` changes the two (tests/one-writer looks for other assignments), and each use moves them on, so that nothing is written twice
+-- or out of its order.
 
 -- a write without its word: where it goes; the number of a position is part of that
 abbrev pub placeOf : Write → Write
@@ -42,13 +43,12 @@ placeOf (Checkpoint position) = Checkpoint position
 abbrev pub pixelsIn : Mem → ℕ
 pixelsIn m = length (m .work0) / 4
 
--- a pixel of this word alone
-abbrev pub wordsOf : ℕ → Words
-wordsOf word = record { r = word; g = word; b = word; a = word }
+abbrev pub noWords : Words
+noWords = record { r = 0; g = 0; b = 0; a = 0 }
 
 -- where the next write goes: write `turn` of the pixel at the position
 unfoldable pub placeAt : Mem → (turn : ℕ) → Write
-placeAt m turn = getD (fiveWrites (positionOf m / pixelsIn m) (positionOf m % pixelsIn m) (wordsOf 0) (positionOf m + 1)) turn (Checkpoint 0)
+placeAt m turn = getD (fiveWrites (positionOf m / pixelsIn m) (positionOf m % pixelsIn m) noWords (positionOf m + 1)) turn (Checkpoint 0)
 
 -- which is next after a write
 abbrev pub turnAfter : Write → ℕ → ℕ
@@ -62,3 +62,14 @@ pub record NextUse (turn : ℕ) (m : Mem) (w : Write) : Type 0 where
   pub serves : Use m w
   pub few : turn < 5
   pub place : placeOf w ≡ placeAt m turn
+
+-- the turn after several writes
+unfoldable pub turnsAfter : List Write → ℕ → ℕ
+turnsAfter [] turn = turn
+turnsAfter (w ∷ ws) turn = turnsAfter ws (turnAfter w turn)
+
+-- Uses of `store` one after the other, as its contract allows them: each write goes to the place that is next, and the one after it finds the memory
+-- and the turn that it leaves. proofs/Order has the law: those of one stretch are the model's writes, word for word.
+unfoldable pub UsesFrom : Mem → (turn : ℕ) → List Write → Type 0
+UsesFrom m turn [] = Unit {0}
+UsesFrom m turn (w ∷ ws) = (placeOf w ≡ placeAt m turn) × UsesFrom (put w m) (turnAfter w turn) ws
