@@ -1,20 +1,17 @@
--- A layer on a destination within the slack: its plan is ready, and its source is a part of the samples. Assumes nothing.
-use mathlib.Core.Path.{_≡_, refl, ap, _∙_, subst⁻¹}
-use mathlib.Core.List.{List}
+-- A layer on a destination within the slack: its plan is ready. Assumes nothing.
+use mathlib.Core.Path.{_≡_, refl}
 use Prim.Native.Nat.{ℕ, _*_, _≤_}
 use native.Mathlib.Nat.{mul-le-mul}
 use native.Mathlib.Omega.{arith}
-use lib.ListN.{length, drop, length-drop}
-use lib.Seq.{length-take-le}
+use lib.ListN.{length}
 use Rattle.places.specs.Bounds.{slack, Measured}
 use Rattle.places.proofs.Anchors.{corner-x, corner-y}
 use Rattle.layers.specs.Cells.{natOf}
 use Rattle.layers.specs.Inputs.{Inputs}
 use Rattle.layers.specs.declared.Layer.{Layer}
-use Rattle.layers.specs.GoodLayers.{GoodLayer}
 use Rattle.layers.proofs.Accepted.{Accepted}
 use Rattle.layers.proofs.Ranges.{channels-least, channels-most}
-use Rattle.compose.specs.Compose.{planOf, sourceOf}
+use Rattle.compose.specs.Compose.{planOf}
 use Rattle.compose.specs.declared.Plan.{Plan}
 use Rattle.compose.specs.Ready.{Ready, Picture, Run}
 
@@ -31,15 +28,6 @@ destination i g = record {
   most = channels-most _ (g .shape .deep .kind);
   whole = g .dst;
 }
-
--- the samples of a good layer's source
-source-length : (samples : List ℕ) (l : Layer) → GoodLayer (length samples) l → length (sourceOf samples (l .source)) ≡ l .source .width * l .source .height * l .source .channels
-source-length samples l g =
-    length-take-le (l .source .width * l .source .height * l .source .channels) (drop (l .source .first) samples) (rw length-drop (omega (arith, g .held)))
-
--- a plan that is ready for the source's shape is ready for its samples
-pub ready-source : (samples source : List ℕ) (l : Layer) (p : Plan) → GoodLayer (length samples) l → source ≡ sourceOf samples (l .source) → Ready p (l .source .width * l .source .height * l .source .channels) → Ready p (length source)
-ready-source samples source l p g e r = subst⁻¹ (Ready p) (ap length e ∙ source-length samples l g) r
 
 module _ (l : Layer) (dw dh : ℕ) (m : Measured dw dh (l .source .width) (l .source .height) (l .right) (l .down)) where
   ready : (p : Plan) → p ≡ planOf l dw dh → 1 ≤ l .source .channels → l .source .channels ≤ 4 → Ready p (l .source .width * l .source .height * l .source .channels)

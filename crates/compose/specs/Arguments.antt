@@ -1,8 +1,8 @@
 -- A layer's arguments as its operator reads them: `arg` of composite.rs (lines 518 to 524), the raw reading of Mathematics (line 1025), and what each
 -- operator asks for, with its default. Document 01: "`arg` puts its default for a missing or non-finite value. Mathematics reads raw arguments, a
 -- missing one as 0." Definitions only.
-use mathlib.Core.Bool.{Bool, cond, _&&_}
-use mathlib.Core.List.{List, [], _∷_}
+use mathlib.Core.Bool.{cond, _&&_}
+use mathlib.Core.List.{[], _∷_}
 use Prim.Native.Nat.{ℕ}
 use lib.Dec.{ltb}
 use lib.ListN.{getD}

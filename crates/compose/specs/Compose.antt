@@ -2,11 +2,11 @@
 -- beneath and the pixel's place. Document 01: "Where a source lands", "Float steps" on what is stored. Definitions only.
 use mathlib.Core.Bool.{Bool, true, cond}
 use mathlib.Core.List.{List}
-use Prim.Native.Nat.{ℕ, _+_, _*_, _/_, _%_}
+use Prim.Native.Nat.{ℕ, _*_, _/_, _%_}
 use lib.IntN.{pos}
 use lib.ListN.{take, drop}
 use lib.Ieee.{Float, binary32, ofInt}
-use Rattle.float_steps.specs.Notation.{_⊕_, _⊖_, _⊗_, f0, half}
+use Rattle.float_steps.specs.Notation.{_⊕_, _⊖_, _⊗_, half}
 use Rattle.float_steps.specs.Words.{wordOf}
 use Rattle.operators.specs.Operators.{same, isMap}
 use Rattle.operators.specs.declared.CompositeOp.the-variants as O
@@ -23,7 +23,6 @@ use Rattle.pictures.specs.Bilinear.{bilinearOf}
 use Rattle.pictures.specs.declared.Rgba.{Rgba}
 use Rattle.pictures.specs.declared.Words.{Words}
 use Rattle.pixels.specs.Pixel.{pixelOf, clear}
-use Rattle.pixels.specs.declared.Params.{Params}
 use Rattle.compose.specs.Arguments.{paramsOf}
 use Rattle.compose.specs.declared.Plan.{Plan}
 

@@ -1,8 +1,7 @@
 // One pixel of the result. Everything that a layer decides once stands in its plan.
 ghost use mathlib.Core.Path.{_≡_};
-ghost use Prim.Native.Nat.{_+_, _*_, _/_, _%_, _<_, _≤_};
+ghost use Prim.Native.Nat.{_+_, _*_, _/_, _%_, _≤_};
 ghost use lib.ListN.{length};
-ghost use lib.Ieee.{Float};
 ghost use Rattle.pictures.specs.Widen.{rgbaAt, valuesOf};
 ghost use Rattle.places.specs.Bounds.{slack, Measured, Under};
 ghost use Rattle.compose.specs.Compose.{planOf, sourcePixel, mapCoordinate, mapped, resultOf, writtenWord, writtenOf, writes, composedBy};

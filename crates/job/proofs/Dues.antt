@@ -15,7 +15,6 @@ use Rattle.pictures.specs.declared.Words.{Words}
 use Rattle.compose.specs.declared.Plan.{Plan}
 use Rattle.compose.specs.Compose.{planOf, sourceOf}
 use Rattle.compose.specs.Ready.{Ready}
-use Rattle.compose.proofs.Placed.{ready-source}
 use Rattle.job.specs.Memory.{Mem, workOf, positionOf}
 use Rattle.job.specs.Call.{Setting, area, pixelOf, runOf}
 use Rattle.job.specs.Steps.{stretchOf, phasePixel, Whole, Raised, Decodable, Sized, Stretch, Due, StretchAhead}
@@ -31,11 +30,10 @@ use Rattle.job.proofs.Stretches.{stretch-position, stretch-run, phase-p
 pub placed : (s : Setting) (m : Mem) (l : Layer) → Sized s m → GoodLayer (length (s .samples)) l → Measured (s .width) (s .height) (l .source .width) (l .source .height) (l .right) (l .down)
 placed s m l z g = measured _ _ _ l (z .picture .width) (z .picture .height) g
 
-pub plan-whole : (s : Setting) (m : Mem) (l : Layer) (p : Plan) (source : List ℕ) → Sized s m → GoodLayer (length (s .samples)) l → p ≡ planOf l (s .width) (s .height) → Ready p (l .source .width * l .source .height * l .source .channels) → source ≡ sourceOf (s .samples) (l .source)
+pub plan-whole : (s : Setting) (m : Mem) (l : Layer) (p : Plan) (source : List ℕ) → Sized s m → p ≡ planOf l (s .width) (s .height) → Ready p (length source)
     → Whole p (s .channels) (length (s .dst)) (length source) (length (m .work0)) (length (m .work1))
 unfolding planOf
-plan-whole s m l p source z g ep er es =
-    let r : Ready p (length source) = ready-source (s .samples) source l p g es er in
+plan-whole s m l p source z ep r =
     rw ep
     record {
       ready = rw ep at r;
@@ -82,7 +80,7 @@ module _ (s : Setting) (k from count rest turn : ℕ) (m : Mem) (l : Layer) (p :
       }
 
   -- what its phase asks
-  pub phase-asks : GoodLayer (length (s .samples)) l → Ready p (l .source .width * l .source .height * l .source .channels)
+  pub phase-asks : Ready p (length source)
       → Whole p (s .channels) (length (s .dst)) (length source) (length (m .work0)) (length (m .work1))
       × (from + count ≤ p .dw * p .dh)
       × (rest < 5)
@@ -90,7 +88,7 @@ module _ (s : Setting) (k from count rest turn : ℕ) (m : Mem) (l : Layer) (p :
       × Raised k from count turn m
       × StretchAhead k f from (5 * count + rest) m
   unfolding planOf
-  phase-asks g er = (plan-whole s m l p source (h .sized) g ep er es, rw ep (h .inside), h .few, rw ep (h .room), raised, ahead)
+  phase-asks r = (plan-whole s m l p source (h .sized) ep r, rw ep (h .inside), h .few, rw ep (h .room), raised, ahead)
 
   -- what it leaves
   pub stretch-done : (m′ : Mem) (turn′ : ℕ) → (m′ ≡ stretchOf k f from count rest m) × (turn′ ≡ rest) → (m′ ≡ runOf s (5 * positionOf m) (5 * count + rest) m) × (positionOf m′ ≡ positionOf m + count) × (turn′ ≡ rest)

@@ -2,7 +2,7 @@
 // The contracts cite specs/Names, the readable list of the names, and specs/Packed, how the code keeps them.
 ghost use mathlib.Core.Path.{_≡_};
 ghost use Prim.Native.Nat.{_≤_, _<_};
-ghost use lib.ListN.{length, getD};
+ghost use lib.ListN.{length};
 ghost use Rattle.names.specs.Names.{isKept, lower, keyOf, same, fromName};
 ghost use Rattle.names.specs.Packed.{total, cut, placeFrom};
 

@@ -5,7 +5,6 @@ use Prim.Native.Nat.{ℕ}
 use lib.Dec.{eqb, ltb}
 use lib.IntN.{ℤ, pos, negsuc}
 use Rattle.operators.specs.Operators.{count, numberOf, opAt}
-use Rattle.operators.specs.declared.CompositeOp.{CompositeOp}
 use Rattle.operators.specs.declared.CompositeOp.the-variants.{Interpolate, Blur}
 use Rattle.operators.specs.declared.Numbered.{Numbered}
 use Rattle.operators.specs.declared.Numbered.the-variants.{Op, Unknown, Curve}

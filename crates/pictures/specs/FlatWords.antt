@@ -3,7 +3,6 @@ use mathlib.Core.List.{List, [], _∷_, _++_}
 use Prim.Native.Nat.{ℕ, zero, suc, _+_, _*_}
 use lib.ListN.{drop, set}
 use Rattle.pictures.specs.declared.Words.{Words}
-use Rattle.pictures.specs.Widen.{rgbaAt}
 
 -- n pixels from pixel i on, where pixel i is f i
 unfoldable pub flat : (ℕ → Words) → ℕ → ℕ → List ℕ

@@ -1,7 +1,6 @@
 -- `pixel` of composite.rs (lines 647 to 855): one pixel of the source, s, on one of the destination, d, both straight RGBA.
 -- One line an operator, with the Rust's names. Definitions only.
 use mathlib.Core.Bool.{Bool, cond, _&&_}
-use mathlib.Core.List.{List, [], _∷_}
 use lib.Ieee.{Float, lt, le}
 use Rattle.operators.specs.Operators.{convention}
 use Rattle.operators.specs.declared.CompositeOp.{CompositeOp}

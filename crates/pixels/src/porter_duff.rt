@@ -1,9 +1,8 @@
 // Porter and Duff's operators, and the two weighted ones that rest on them (composite.rs lines 651 to 724 and the helpers from 857 on).
 ghost use mathlib.Core.Path.{_≡_};
-ghost use Rattle.float_steps.specs.Notation.{_⊕_, _⊖_, _⊗_, f1};
 ghost use Rattle.operators.specs.declared.CompositeOp.the-variants as O;
 ghost use Rattle.pixels.specs.Channel.{overChannel, atopChannel, xorChannel, plusChannel};
-ghost use Rattle.pixels.specs.Pixel.{pixelOf, premultOf, withAlpha, straightOrClearOf, overBy, overOf, keptWhereClear, unused};
+ghost use Rattle.pixels.specs.Pixel.{pixelOf, premultOf, withAlpha, straightOrClearOf, overBy, keptWhereClear, unused};
 use crate::Params;
 use float_steps::order::smaller;
 use pictures::Rgba;

@@ -2,7 +2,6 @@
 // what it calls. A picture is lent as its words, the binary32 patterns, so that a host passes its float buffer as it is.
 ghost use mathlib.Core.Path.{_≡_};
 ghost use mathlib.Core.Bool.{cond};
-ghost use Prim.Native.Nat.{ℕ};
 ghost use lib.IntN.{pos};
 ghost use Rattle.names.specs.Names.{fromName};
 ghost use Rattle.layers.specs.Inputs.{inputsOf};

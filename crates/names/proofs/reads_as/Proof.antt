@@ -5,7 +5,7 @@ use mathlib.Core.Logic.{⊎-elim}
 use Prim.Native.Nat.{_≤_, _-_}
 use native.Mathlib.Omega.{arith}
 use borrow.Author.Needs.{needs}
-use lib.ListN.{length, getD}
+use lib.ListN.{length}
 use Rattle.names.proofs.Reading.{left, dropped, word-ended, differs, agrees, text-ended}
 use Rattle.names.proofs.reads_as.Statement.{statement}
 use Rattle.names.proofs.reads_as.Tie as tie

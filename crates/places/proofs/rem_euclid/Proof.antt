@@ -1,6 +1,5 @@
 -- `places::rem_euclid` meets its contract: below zero, −1 − z is exact and not negative. Assumes nothing.
 use mathlib.Core.Path.{_≡_, sym, ap}
-use Prim.Native.Nat.{_-_}
 use native.Mathlib.Omega.{arith}
 use native.Mathlib.Nat.{mod-lt}
 use borrow.Author.Needs.{needs}

@@ -1,5 +1,5 @@
 -- `tray::tray_job` meets its contract: it is the job's call, its answer taken apart. Assumes nothing.
-use mathlib.Core.Path.{_∙_, ap}
+use mathlib.Core.Path.{ap}
 use borrow.Author.Needs.{needs}
 use mir.Facts.{toZ-ofZ}
 use Rattle.tray.specs.Answers.{jobOutcome}

@@ -1,5 +1,4 @@
 -- `blends::conversions::hsl_to_rgb` meets its contract. Assumes nothing.
-use mathlib.Core.Path.{_∙_}
 use Rattle.float_steps.proofs.Choice.{yes, no}
 use Rattle.blends.specs.Hsl.{hslToRgbOf}
 use borrow.Author.Needs.{needs}

@@ -1,6 +1,6 @@
 -- `compose::run::run` meets its contract. The loop's invariant: the first i pixels of out are composed, and the rest is as it was; x and y are the
 -- column and the row of the next. The measure is the pixels left. Assumes nothing.
-use mathlib.Core.Path.{_≡_, refl, sym, _∙_, ap}
+use mathlib.Core.Path.{_≡_, refl, _∙_, ap}
 use Prim.Native.Nat.{ℕ, _≤_, _<_, _-_, _+_, _*_, _/_, _%_}
 use native.Mathlib.Nat.{add-zero, add-assoc}
 use native.Mathlib.Omega.{arith}

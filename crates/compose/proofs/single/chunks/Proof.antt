@@ -3,7 +3,7 @@
 use Rattle.compose.proofs.Parts.{chunk-more}
 use Rattle.pictures.proofs.FlatWords.{length-filled, filled-all}
 use mathlib.Core.Path.{_≡_, refl, _∙_, ap}
-use Prim.Native.Nat.{_≤_, _-_, _+_, _*_}
+use Prim.Native.Nat.{_≤_, _-_, _+_}
 use native.Mathlib.Omega.{arith}
 use borrow.Author.Needs.{needs}
 use lib.ListN.{length, length-take, length-drop}

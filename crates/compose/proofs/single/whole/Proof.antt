@@ -1,7 +1,7 @@
 -- `compose::single::whole` meets its contract: the part that is lent is the source, and the plan is the layer's. Assumes nothing.
 use mathlib.Core.Path.{_∙_}
 use native.Mathlib.Omega.{arith}
-use Rattle.compose.proofs.Placed.{plane, ready-source, runs}
+use Rattle.compose.proofs.Placed.{plane, runs}
 use Rattle.layers.proofs.Accepted.{measured}
 use Rattle.layers.proofs.Ranges.{channels-least, channels-most}
 use borrow.Author.Needs.{needs}
@@ -22,7 +22,7 @@ chunks-requires : tie.Need-chunks-requires
 chunks-requires c κs =
     let p = c .before .before in
     let s = p .before .before .before .before in (
-      ready-source _ _ (s .args .l) _ (s .pre .0) (c .before .source-of .ensures) (p .plan .ensures .1),
+      rw (c .before .source-of .ensures .1) (p .plan .ensures .1),
       runs (s .args .l) (s .args .dw) (s .args .dh) (p .plan .result) _ _ (p .plan .ensures .0) (s .pre .1),
       s .pre .2,
     )
@@ -30,7 +30,7 @@ chunks-requires c κs =
 returns : tie.Need-returns
 returns c =
     let k = c .before .before in
-    k .chunks .ensures ∙ rw (k .before .before .source-of .ensures, k .before .before .before .plan .ensures .0)
+    k .chunks .ensures ∙ rw (k .before .before .source-of .ensures .0, k .before .before .before .plan .ensures .0)
 
 pub whole-spec : {M : Type 1} → statement M
 whole-spec =

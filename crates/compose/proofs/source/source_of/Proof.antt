@@ -1,7 +1,8 @@
 -- `compose::source::source_of` meets its contract: the part ends where its samples do, which are first + area. Assumes nothing.
-use mathlib.Core.Path.{_≡_, ap}
+use mathlib.Core.Path.{_≡_, ap, _∙_}
 use Prim.Native.Nat.{ℕ, _+_, _-_, _*_}
-use lib.ListN.{take, drop}
+use lib.ListN.{length, take, drop, length-drop}
+use lib.Seq.{length-take-le}
 use borrow.Author.Needs.{needs}
 use native.Mathlib.Omega.{arith}
 use Rattle.compose.proofs.Placed.{plane}
@@ -16,7 +17,8 @@ returns c =
     let s = c .before .before .before .before in
     let q = s .args .l .source in
     let e : q .first + q .width * q .height * q .channels - q .first ≡ q .width * q .height * q .channels = omega arith in
-    ap (λ (x : ℕ). take x (drop (q .first) (s .args .samples .now))) e
+    let part = ap (λ (x : ℕ). take x (drop (q .first) (s .args .samples .now))) e in
+    (part, ap length part ∙ length-take-le (q .width * q .height * q .channels) (drop (q .first) (s .args .samples .now)) (rw length-drop (omega (arith, s .pre .held))))
 
 pub source-of-spec : {M : Type 1} → statement M
 source-of-spec =

@@ -23,12 +23,8 @@ int-to-float-t7 c =
     subst (λ (v : Float). floorOf v ≤ last .result) (sym (c .before .before .before .held .ensures)) (floor-held (c .before .before .before .before .before .before .args .x) (last .result) low) in
     in-float binary32 (c .before .before .floor .result) (omega (arith, c .before .before .floor .ensures))
 
-returns : tie.Need-returns
-unfolding axisOf axisAt
-returns c =
-    rw (← c .before .before .before .before .before .last-of .ensures, ← c .before .before .before .held .ensures, ← c .before .before .floor .ensures, ← c .before .after .ensures)
-
 pub locate-spec : {M : Type 1} → statement M
+unfolding axisOf axisAt
 locate-spec =
     tie.close
     (tie.spec
@@ -38,4 +34,4 @@ locate-spec =
     (λ c κs. search needs)
     (λ c κs. search needs)
     int-to-float-t7
-    returns)
+    (λ c. cc))

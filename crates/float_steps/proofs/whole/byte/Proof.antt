@@ -4,9 +4,6 @@ use Rattle.float_steps.specs.Whole.{byteOf}
 use Rattle.float_steps.proofs.whole.byte.Statement.{statement}
 use Rattle.float_steps.proofs.whole.byte.Tie as tie
 
-returns : tie.Need-returns
-unfolding byteOf
-returns c = rw (← c .before .unit .ensures, ← c .round-byte .ensures)
-
 pub byte-spec : {M : Type 1} → statement M
-byte-spec = tie.close (tie.spec (λ c κs. search needs) (λ c κs. search needs) returns)
+unfolding byteOf
+byte-spec = tie.close (tie.spec (λ c κs. search needs) (λ c κs. search needs) (λ c. cc))

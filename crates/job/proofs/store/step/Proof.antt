@@ -1,5 +1,5 @@
 -- `job::store::step` meets its contract: a word of the pixel, or the position. Assumes nothing.
-use mathlib.Core.Path.{_≡_, sym, ap, _∙_, subst⁻¹}
+use mathlib.Core.Path.{_≡_, ap, _∙_, subst⁻¹}
 use Prim.Native.Nat.{_+_, _<_, _≤_}
 use lib.ListN.{getD}
 use Rattle.job.specs.declared.Write.{Write}

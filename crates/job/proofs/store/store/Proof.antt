@@ -1,6 +1,5 @@
 -- `job::store::store` meets its contract. Assumes nothing.
 use mathlib.Core.Path.{_≡_, sym, ap, subst}
-use Prim.Native.Nat.{ℕ}
 use Rattle.job.specs.declared.Write.{Write}
 use Rattle.job.specs.Memory.{Mem, memOf, put, InRange}
 use Rattle.job.specs.Uses.{turnAfter}

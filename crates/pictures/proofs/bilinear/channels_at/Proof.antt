@@ -14,9 +14,6 @@ add-rgba-at c = record { fits = omega (arith, pixel-fits _ _ _ _ _ (c .before .p
 rgba-at-requires : tie.Need-rgba-at-requires
 rgba-at-requires c κs = (c .before .pre .0, c .before .pre .1, rw (c .before .pre .4) (words-inside _ _ _ (pixel-inside _ _ _ _ (c .before .pre .2) (c .before .pre .3))))
 
-returns : tie.Need-returns
-returns c = rw (c .values .ensures, c .before .rgba-at .ensures)
-
 pub channels-at-spec : {M : Type 1} → statement M
 channels-at-spec =
-    tie.close (tie.spec mul-rgba-at add-rgba-at rgba-at-requires (λ c κs. search needs) returns)
+    tie.close (tie.spec mul-rgba-at add-rgba-at rgba-at-requires (λ c κs. search needs) (λ c. cc))

@@ -3,9 +3,6 @@ use borrow.Author.Needs.{needs}
 use Rattle.pictures.proofs.bilinear.mix.Statement.{statement}
 use Rattle.pictures.proofs.bilinear.mix.Tie as tie
 
-returns : tie.Need-returns
-returns c = rw (c .mixed4 .ensures, c .before .mixed3 .ensures, c .before .before .mixed2 .ensures, c .before .before .before .mixed .ensures)
-
 pub mix-spec : {M : Type 1} → statement M
 mix-spec =
-    tie.close (tie.spec (λ c κs. search needs) (λ c κs. search needs) (λ c κs. search needs) (λ c κs. search needs) returns)
+    tie.close (tie.spec (λ c κs. search needs) (λ c κs. search needs) (λ c κs. search needs) (λ c κs. search needs) (λ c. cc))

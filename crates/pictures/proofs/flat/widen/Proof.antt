@@ -1,9 +1,8 @@
 -- `pictures::flat::widen` meets its contract. The loop's invariant: the first i pixels of out are those of the picture from `from` on, and the
 -- rest is as it was. The measure is the pixels left. Assumes nothing.
 use mathlib.Core.Path.{_≡_, refl, _∙_, ap}
-use Prim.Native.Nat.{_≤_, _-_, _+_, _*_}
+use Prim.Native.Nat.{_≤_, _-_, _+_}
 use native.Mathlib.Omega.{arith}
-use native.Mathlib.Nat.{mul-le-mul-left}
 use borrow.Author.Needs.{needs}
 use lib.ListN.{length}
 use Rattle.pictures.specs.Widen.{rgbaAt}

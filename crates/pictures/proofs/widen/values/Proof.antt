@@ -3,9 +3,6 @@ use borrow.Author.Needs.{needs}
 use Rattle.pictures.proofs.widen.values.Statement.{statement}
 use Rattle.pictures.proofs.widen.values.Tie as tie
 
-returns : tie.Need-returns
-returns c = rw (c .value4 .ensures, c .before .value3 .ensures, c .before .before .value2 .ensures, c .before .before .before .value .ensures)
-
 pub values-spec : {M : Type 1} → statement M
 values-spec =
-    tie.close (tie.spec (λ c κs. search needs) (λ c κs. search needs) (λ c κs. search needs) (λ c κs. search needs) returns)
+    tie.close (tie.spec (λ c κs. search needs) (λ c κs. search needs) (λ c κs. search needs) (λ c κs. search needs) (λ c. cc))
