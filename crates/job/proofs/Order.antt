@@ -302,10 +302,10 @@ module _ (i : Inputs) (m : Mem) (p : ℕ) (v : Progress i m p 0) where
       let same : length (entries t) ≡ t = length-take-le t (drop (5 * p) (writeSequence i)) (omega (arith, left-length i p)) in
       uses-same n (p / n) ws (entries t) (p % n) 0 m a (omega arith) u (allowed t h .0) (λ y. omega (arith, long, b (omega (arith, long)))) (long ∙ sym same) (ap (workOf (p / n)) (e ∙ f .same))
 
--- The law. A stretch of a call with the inputs i, from memory that is right up to its position: uses of `store` that its contract allows one after the
--- other, and that end at the memory and the turn that the contract of `stretch` names, are the entries of the model's write sequence, word for word and
--- in their order. So whatever body meets that contract by uses of `store` makes these and no other. It is a law of one picture: a later picture is
--- written over the words of an earlier one, and a memory further on says nothing of them.
+-- The law. A stretch of a call with the inputs i, from memory that is right up to its position, as each stretch finds it (`made`, proofs/Progress): uses
+-- of `store` that its contract allows one after the other, and that end at the memory and the turn that the contract of `stretch` names, are the entries
+-- of the model's write sequence, word for word and in their order. So whatever body meets that contract by uses of `store` makes these and no other. It
+-- is a law of one picture: a later picture is written over the words of an earlier one, and a memory further on says nothing of them.
 pub uses-are : (i : Inputs) (m : Mem) (k from count rest : ℕ) → Progress i m (positionOf m) 0 → Stretch (settingOf i) k from count rest 0 m → 5 * count + rest ≤ 5 * (endOf i - positionOf m)
     → (ws : List Write) → UsesFrom m 0 ws → stored ws m ≡ runOf (settingOf i) (5 * positionOf m) (5 * count + rest) m → turnsAfter ws 0 ≡ rest
     → ws ≡ take (5 * count + rest) (drop (5 * positionOf m) (writeSequence i))

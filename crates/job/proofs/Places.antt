@@ -7,7 +7,7 @@ use lib.Dec.{eqb}
 use lib.ListN.{getD}
 use Rattle.pictures.specs.declared.Words.{Words}
 use Rattle.job.specs.declared.Write.the-variants.{Work0, Work1, Checkpoint}
-use Rattle.job.specs.Memory.{Mem, positionOf, wordWrite, fiveWrites}
+use Rattle.job.specs.Memory.{Mem, positionOf, fiveWrites}
 use Rattle.job.specs.Uses.{placeOf, pixelsIn, noWords, placeAt, turnAfter}
 use Rattle.job.specs.Steps.{Room}
 use Rattle.job.proofs.Runs.{place-div, place-mod}
@@ -40,10 +40,6 @@ due-place k j w c turn m r e =
 pub turn-by : (b : Bool) (at word turn : ℕ) → turnAfter (cond b (Work0 at word) (Work1 at word)) turn ≡ turn + 1
 turn-by true at word turn = refl
 turn-by false at word turn = refl
-
--- after a word
-pub word-turn : (k at word c turn : ℕ) → c < 4 → turn ≡ c → turnAfter (wordWrite k at word) turn ≡ (c + 1) % 5
-word-turn k at word c turn h e = turn-by (eqb (k % 2) 0) at word turn ∙ omega arith
 
 -- after write c of a pixel
 pub five-turn : (k j : ℕ) (w : Words) (q c : ℕ) → c < 5 → turnAfter (getD (fiveWrites k j w q) c (Checkpoint 0)) c ≡ (c + 1) % 5

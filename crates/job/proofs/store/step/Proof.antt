@@ -1,13 +1,13 @@
 -- `job::store::step` meets its contract: a word of the pixel, or the position. Assumes nothing.
 use mathlib.Core.Path.{_≡_, ap, _∙_, subst⁻¹}
-use Prim.Native.Nat.{_+_, _<_, _≤_}
+use Prim.Native.Nat.{_+_, _%_, _<_, _≤_}
 use lib.ListN.{getD}
 use Rattle.job.specs.declared.Write.{Write}
 use Rattle.job.specs.declared.Write.the-variants.{Checkpoint}
 use Rattle.job.specs.Memory.{Mem, memOf, put, InRange, fiveWrites, positionOf}
 use Rattle.job.specs.Uses.{Use, placeOf, turnAfter, NextUse}
 use Rattle.job.proofs.Writes.{due-range, step-word, step-position}
-use Rattle.job.proofs.Places.{due-place, word-turn}
+use Rattle.job.proofs.Places.{due-place, five-turn}
 use borrow.Author.Needs.{needs}
 use native.Mathlib.Omega.{arith}
 use Rattle.job.proofs.store.step.Statement.{statement}
@@ -28,6 +28,13 @@ next s w e h = record {
   few = omega (arith, s .pre .few, s .pre .order);
   place = ap placeOf e ∙ due-place (s .args .k) (s .args .j) (s .args .w) (s .args .c) (s .args .turn .now) (memory s) (s .pre .room) (s .pre .order);
 }
+
+-- and moves memory and turn on
+made : (s : tie.Start) (w : Write) → w ≡ due s → (put w (memory s) ≡ put (due s) (memory s)) × (turnAfter w (s .args .turn .now) ≡ (s .args .c + 1) % 5)
+made s w e = (
+  ap (λ (x : Write). put x (memory s)) e,
+  ap (λ (x : Write). turnAfter x (s .args .turn .now)) e ∙ ap (turnAfter (due s)) (s .pre .order) ∙ five-turn (s .args .k) (s .args .j) (s .args .w) (positionOf (memory s) + 1) (s .args .c) (s .pre .few),
+)
 
 -- a word is write c of the five
 abbrev start : tie.After-word-write → tie.Start
@@ -51,9 +58,9 @@ store-requires c κs =
 returns : tie.Need-returns
 returns c =
     let d = c .before .before .before .before .before .before .before in
-    let s = start d in
     let e = c .before .before .before .before .before .before .store .ensures in
-    (e .0 ∙ ap (λ (x : Write). put x (memory s)) (written d), e .1 ∙ ap (λ (x : Write). turnAfter x (s .args .turn .now)) (d .word-write .ensures) ∙ word-turn (s .args .k) _ _ (s .args .c) (s .args .turn .now) (few d) (s .pre .order))
+    let f = made (start d) _ (written d) in
+    (e .0 ∙ f .0, e .1 ∙ f .1)
 
 store-requires-2 : tie.Need-store-requires-2
 store-requires-2 c κs = let s = (c .before .before .before .before .before .before .before .before .before) in next s _ (last s (c .before .before .before .before .before .if1 .left)) (s .pre .room .marked)
@@ -63,7 +70,8 @@ returns-2 c =
     let s = (c .before .before .before .before .before .before .before .before .before .before .before .before .before .before .before .before) in
     let h = c .before .before .before .before .before .before .before .before .before .before .before .before .if1 .left in
     let e = c .before .before .before .before .before .before .store2 .ensures in
-    (e .0 ∙ ap (λ (x : Write). put x (memory s)) (last s h), e .1 ∙ omega (arith, s .pre .few, h))
+    let f = made s _ (last s h) in
+    (e .0 ∙ f .0, e .1 ∙ f .1)
 
 pub step-spec : {M : Type 1} → statement M
 step-spec =
