@@ -1,12 +1,11 @@
 -- What a list of a line means: its numbers, one after the other, from a place on.
-use mathlib.Core.Bool.{Bool, true, false, cond, _&&_}
+use mathlib.Core.Bool.{Bool, true, false, _&&_}
 use mathlib.Core.List.{List, [], _∷_}
 use Prim.Native.Nat.{ℕ, zero, suc}
 use lib.Dec.{eqb}
 use lib.IntN.{ℤ}
-use lib.ListN.{set}
-use Rattle.vector_lines.specs.declared.numbers.Head.{Head}
-use Rattle.vector_lines.specs.Numbers.{numberAt, signedAt}
+use lib.ListN.{length, set}
+use Rattle.vector_lines.specs.Numbers.{numberAt, signedAt, headAt, countAt}
 
 -- the place after i numbers, where `next` is the place after one
 unfoldable pub placeOf : (ℕ → ℕ) → ℕ → ℕ → ℕ
@@ -18,29 +17,29 @@ unfoldable pub filled : {A : Type 0} → (ℕ → A) → (ℕ → ℕ) → ℕ �
 filled value next from list zero = list
 filled value next from list (suc i) = set (filled value next from list i) i (value (placeOf next from i))
 
--- numbers of at most `most`
-abbrev pub endOf : ℕ → List ℕ → ℕ → ℕ → ℕ
-endOf most line = placeOf (λ at. numberAt most line at .next)
+-- a list that was read, its count, and the place after it
+pub record Listed (A : Type 0) : Type 0 where
+  pub list : List A
+  pub count : ℕ
+  pub next : ℕ
 
-abbrev pub numbersOf : ℕ → List ℕ → ℕ → List ℕ → ℕ → List ℕ
-numbersOf most line = filled (λ at. numberAt most line at .value) (λ at. numberAt most line at .next)
+abbrev pub listed : {A : Type 0} → List A → ℕ → ℕ → Listed A
+listed list count next = record { list = list; count = count; next = next }
 
--- signed numbers
-abbrev pub signedEnd : List ℕ → ℕ → ℕ → ℕ
-signedEnd line = placeOf (λ at. signedAt line at .next)
+-- a list that is read at a place over what it had: the numbers that follow its head
+abbrev pub listBy : {A : Type 0} → (ℕ → A) → (ℕ → ℕ) → List ℕ → ℕ → List A → ℕ → Listed A
+listBy value next line at list count =
+    listed
+    (filled value next (headAt (length list) line at .next) list (headAt (length list) line at .count))
+    (countAt (length list) line at count)
+    (placeOf next (headAt (length list) line at .next) (headAt (length list) line at .count))
 
-abbrev pub integersOf : List ℕ → ℕ → List ℤ → ℕ → List ℤ
-integersOf line = filled (λ at. signedAt line at .value) (λ at. signedAt line at .next)
+-- numbers of at most `most`, and signed numbers
+abbrev pub numbersAt : ℕ → List ℕ → ℕ → List ℕ → ℕ → Listed ℕ
+numbersAt most line = listBy (λ at. numberAt most line at .value) (λ at. numberAt most line at .next) line
 
--- with what stands in a list's place: '=' keeps the list and its count, otherwise so many numbers follow
-abbrev pub listEnd : Head → (ℕ → ℕ → ℕ) → ℕ
-listEnd head end = cond (head .kept) (head .next) (end (head .next) (head .count))
-
-abbrev pub listOf : {A : Type 0} → Head → (ℕ → List A → ℕ → List A) → List A → List A
-listOf head numbers list = cond (head .kept) list (numbers (head .next) list (head .count))
-
-abbrev pub countOf : Head → ℕ → ℕ
-countOf head count = cond (head .kept) count (head .count)
+abbrev pub integersAt : List ℕ → ℕ → List ℤ → ℕ → Listed ℤ
+integersAt line = listBy (λ at. signedAt line at .value) (λ at. signedAt line at .next) line
 
 -- whether two lists are the same
 unfoldable pub same : List ℕ → List ℕ → Bool

@@ -1,6 +1,6 @@
 -- What a token and a number of a line mean; oracle/README.md has the form. A place is counted from the line's start. Once something is
 -- malformed the place is `nowhere`, and past a line's end there is neither a space nor a digit, so it stays `nowhere`.
-use mathlib.Core.Bool.{true, false, cond, _&&_}
+use mathlib.Core.Bool.{Bool, cond, _&&_}
 use mathlib.Core.List.{List, [], _∷_}
 use Prim.Native.Nat.{ℕ, _+_, _-_, _*_}
 use lib.Dec.{eqb, ltb}
@@ -90,9 +90,16 @@ signedBy line start =
 abbrev pub signedAt : List ℕ → ℕ → Integer
 signedAt line at = signedBy line (tokenAt line at)
 
--- what stands in the place of a list that has room for `room` numbers: '=', or the count of its numbers
+-- what stands in the place of a list that has room for `room` numbers: '=', after which none follow, or their count
+abbrev pub keptAt : List ℕ → ℕ → Bool
+keptAt line at = eqb (byteOf line (tokenAt line at)) 61
+
 abbrev pub headAt : ℕ → List ℕ → ℕ → Head
 headAt room line at =
-    cond (eqb (byteOf line (tokenAt line at)) 61)
-    (record { kept = true; count = 0; next = afterOf (tokenAt line at) })
-    (record { kept = false; count = numberAt room line at .value; next = numberAt room line at .next })
+    cond (keptAt line at)
+    (record { count = 0; next = afterOf (tokenAt line at) })
+    (record { count = numberAt room line at .value; next = numberAt room line at .next })
+
+-- a list's count after that: '=' keeps it
+abbrev pub countAt : ℕ → List ℕ → ℕ → ℕ → ℕ
+countAt room line at count = cond (keptAt line at) count (numberAt room line at .value)

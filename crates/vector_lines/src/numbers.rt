@@ -1,7 +1,7 @@
 // Tokens and numbers. A token stands after one space; a number is one to sixteen small hexadecimal digits without leading zeros.
 ghost use mathlib.Core.Path.{_≡_};
 ghost use Prim.Native.Nat.{_≤_};
-ghost use Rattle.vector_lines.specs.Numbers.{largest, mostSigned, byteOf, afterOf, tokenAt, digitOf, none, upTo, goneOn, digitsAt, numberAt, expectedAt, integerOf, complementOf, signedAt, headAt};
+ghost use Rattle.vector_lines.specs.Numbers.{largest, mostSigned, byteOf, afterOf, tokenAt, digitOf, none, upTo, goneOn, digitsAt, numberAt, expectedAt, integerOf, complementOf, signedAt, headAt, countAt};
 use crate::NOWHERE;
 
 // A number and the place after it; 0 and NOWHERE where there is none.
@@ -15,9 +15,8 @@ pub struct Integer {
     pub next: usize,
 }
 
-// What stands in a list's place: `=`, which keeps the list as it is, or the count of its numbers.
+// How many numbers of a list follow, none after `=`, and the place where they start.
 pub struct Head {
-    pub kept: bool,
     pub count: usize,
     pub next: usize,
 }
@@ -181,22 +180,22 @@ fn complement(n: Unsigned) -> Integer
     }
 }
 
-// What stands in the place of a list that has room for `room` numbers.
-pub fn head_of(line: &[u8], at: usize, room: usize) -> Head
+// What stands in the place of a list that has room for `room` numbers: `=`, or its count, which is written to `count`.
+pub fn head_of(line: &[u8], at: usize, room: usize, count: &mut usize) -> Head
     ensures { λ r. ⌜ r ≡ headAt room (now (line .entry)) at ⌝ }
     ensures { λ r. ⌜ r .count ≤ room ⌝ }
+    ensures { λ _. ⌜ now (count .exit) ≡ countAt room (now (line .entry)) at (now (count .entry)) ⌝ }
 {
     let start = token(line, at);
     if byte(line, start) == b'=' {
         return Head {
-            kept: true,
             count: 0,
             next: after(start),
         };
     }
     let n = number_up_to(line, at, room as u64);
+    *count = n.value as usize;
     Head {
-        kept: false,
         count: n.value as usize,
         next: n.next,
     }

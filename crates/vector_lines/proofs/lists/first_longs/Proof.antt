@@ -1,19 +1,11 @@
 -- `first_longs` meets its contract. Assumes nothing.
-use mathlib.Core.Path.{sym, ap}
-use Prim.Native.Nat.{ℕ}
+use mathlib.Core.Path.{sym}
 use native.Mathlib.Nat.{sub-zero}
-use lib.ListN.{take}
 use lib.Seq.{take-all}
 use borrow.Author.Needs.{needs}
 use Rattle.vector_lines.proofs.lists.first_longs.Statement.{statement}
 use Rattle.vector_lines.proofs.lists.first_longs.Tie as tie
 
-returns : tie.Need-returns
-returns c = ap (λ (n : ℕ). take n (c .before .before .args .list .now)) (sub-zero (c .before .before .args .count))
-
-returns-2 : tie.Need-returns-2
-returns-2 c = sym (take-all (c .before .args .count) (c .before .args .list .now) (c .if1 .left))
-
 pub first-longs-spec : {M : Type 1} → statement M
 first-longs-spec =
-    tie.close (tie.spec (λ c. search needs) (λ c. search needs) (λ c. search needs) returns returns-2)
+    tie.close (tie.spec (λ c. search needs) (λ c. search needs) (λ c. search needs) (λ c. rw sub-zero) (λ c. sym (take-all _ _ (c .if1 .left))))

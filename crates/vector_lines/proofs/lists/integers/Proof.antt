@@ -1,21 +1,34 @@
--- `integers` meets its contract, by its callees'. Assumes nothing.
+-- `integers` meets its contract. The invariant: i numbers are read. The measure is how many are left. Assumes nothing.
+use Prim.Native.Nat.{_-_}
+use native.Mathlib.Omega.{arith}
 use borrow.Author.Needs.{needs}
+use mir.Facts.{toZ-ofZ}
+use Rattle.vector_lines.proofs.Digits.{signed-fits}
+use Rattle.vector_lines.proofs.Filling.{IntegersRead, none-read, one-read, room, all-read}
 use Rattle.vector_lines.proofs.lists.integers.Statement.{statement}
 use Rattle.vector_lines.proofs.lists.integers.Tie as tie
 
-returns : tie.Need-returns
-returns c =
-    let h = c .before .head-of .ensures .0 in
-    let kept = c .if1 .taken in
-    (rw (← h, kept), (rw (← h, kept), rw (← h, kept)))
-
-returns-2 : tie.Need-returns-2
-returns-2 c =
-    let f = c .before in
-    let t = f .before .before in
-    let h = t .before .head-of .ensures .0 in
-    let given = t .if1 .left in
-    (rw (f .fill-integers .ensures .0, ← h, given), (rw (f .fill-integers .ensures .1, ← h, given), rw (← h, given)))
-
 pub integers-spec : {M : Type 1} → statement M
-integers-spec = tie.close (tie.spec (λ c κs. search needs) returns (λ c κs. search needs) (λ c. search needs) returns-2)
+integers-spec =
+    tie.close
+    (tie.spec
+    (λ line at list₀ count head next₀ i₀ list next i. IntegersRead line head list₀ i list next)
+    (λ line at list₀ count head next₀ i₀ list next i. head .count - i)
+    (λ c κs. search needs)
+    (λ c. none-read)
+    (λ c κs. search needs)
+    (λ c. search needs)
+    (λ c. let long = room (c .before .before .before .before .loop .inv) in omega arith)
+    (λ c. search needs)
+    (λ c. omega arith)
+    (λ c.
+    let n = c .before .signed .ensures in
+    let l = c .before .before .before .before in
+    let fits = signed-fits (l .before .before .before .before .args .line .now) (l .loop .next) in
+    one-read (l .loop .inv) (omega arith) (rw n (toZ-ofZ fits)) (rw n))
+    (λ c. room (c .before .before .loop .inv))
+    (λ c.
+    let l = c .before .before in
+    let s = l .before .before .before .before .args in
+    let h = l .before .head-of .ensures in
+    all-read (l .loop .inv) (s .line .now) (s .at) (s .count .now) (c .if1 .left) (h .0) (h .1 .1)))
