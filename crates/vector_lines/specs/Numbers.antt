@@ -73,7 +73,7 @@ abbrev pub numberAt : ℕ → List ℕ → ℕ → Unsigned
 numberAt most line at = shortAt most line (tokenAt line at)
 
 -- the place after a number that must be `value`
-abbrev pub expectedAt : List ℕ → ℕ → ℕ → ℕ
+unfoldable pub expectedAt : List ℕ → ℕ → ℕ → ℕ
 expectedAt line at value = cond (eqb (numberAt largest line at .value) value) (numberAt largest line at .next) nowhere
 
 -- a signed number after a space: one below zero is '~' and its complement, -1 - n; both have at most 63 binary digits

@@ -1,8 +1,11 @@
 // How a line of the fixed vectors is read: tokens, numbers and lists (oracle/README.md has their form). A function is given the line and a place in
-// it, and answers the next place. Once something is malformed, or is not what was expected, the place is NOWHERE, and it stays NOWHERE.
+// it, and answers the next place. Once something is malformed, or is not what was expected, the place is NOWHERE, and it stays NOWHERE. And how lines are
+// counted.
+mod counting;
 mod lists;
 mod numbers;
 
+pub use counting::tally;
 pub use lists::bytes;
 pub use lists::first_bytes;
 pub use lists::first_integers;

@@ -1,9 +1,15 @@
 // One function a kind of line: it reads what is asked, calls the library, and holds the answer against what the line says. Each answers the place
 // after the line's last token, or NOWHERE where the line is malformed or its answer is another.
-ghost use Prim.Native.Nat.{_≤_};
+ghost use mathlib.Core.Path.{_≡_};
+ghost use lib.IntN.{pos};
+ghost use Rattle.names.specs.Names.{fromName};
+ghost use Rattle.narrowing.specs.Narrow.{narrowOf, narrowBytesOf};
+ghost use Rattle.layers.specs.Inputs.{inputsOf};
+ghost use Rattle.compose.specs.Single.{composeOf};
+ghost use Rattle.tray.specs.Answers.{nameOf};
+ghost use Rattle.vectors.specs.Cases.{nameAt, namedAt, ifSame, writtenAt, narrowedAt, narrowedBytesAt, composedAt};
 use crate::rooms::AT_ARGS;
 use crate::rooms::AT_DST;
-use crate::rooms::AT_INPUT;
 use crate::rooms::AT_SAMPLES;
 use crate::rooms::AT_TABLE;
 use crate::rooms::Args;
@@ -30,102 +36,82 @@ const FILL: u32 = 0xa5a5_a5a5;
 const FILL_BYTE: u8 = 0xa5;
 
 // F NAME: number operator.
-pub fn name(line: &[u8]) -> usize {
+pub fn name(line: &[u8]) -> usize
+    ensures { λ r. ⌜ r ≡ nameAt (now (line .entry)) ⌝ }
+{
     let mut text = [0u8; 128];
     let mut count: usize = 0;
     let at = bytes(line, 1, &mut text, &mut count);
     named(line, at, first_bytes(&text, count))
 }
 
-fn named(line: &[u8], at: usize, text: &[u8]) -> usize {
+fn named(line: &[u8], at: usize, text: &[u8]) -> usize
+    ensures { λ r. ⌜ r ≡ namedAt (now (line .entry)) at (nameOf (fromName (now (text .entry))) 0) ⌝ }
+{
     let mut operator: u64 = 0;
     let answer = tray::tray_from_name(text, &mut operator);
     expect(line, expect(line, at, answer), operator)
 }
 
-// What a line asks of a narrowing: `wanted INPUT length`, and the place after it, or NOWHERE where the output would be too long.
-struct NarrowCase {
-    wanted: i64,
-    length: usize,
-    next: usize,
-}
-
-fn narrow_case(line: &[u8], input: &mut Picture, counts: &mut Counts) -> NarrowCase
-    ensures { λ r. ⌜ r .length ≤ 256 ⌝ }
-{
+// N or B, to words or to bytes, wanted INPUT length: number OUT.
+pub fn narrowing(line: &[u8], to_bytes: bool, input: &mut Picture, count: &mut usize) -> usize {
     let wanted = signed(line, 1);
-    let at = words(line, wanted.next, input, &mut counts[AT_INPUT]);
-    let length = number(line, at);
+    let length = number(line, words(line, wanted.next, input, count));
     let value = wanted.value;
     if length.value > OUT as u64 {
-        return NarrowCase {
-            wanted: value,
-            length: 0,
-            next: NOWHERE,
-        };
-    }
-    NarrowCase {
-        wanted: value,
-        length: length.value as usize,
-        next: length.next,
-    }
-}
-
-// N wanted INPUT length: number OUT.
-pub fn narrowing(line: &[u8], input: &mut Picture, counts: &mut Counts) -> usize {
-    let a = narrow_case(line, input, counts);
-    if a.next == NOWHERE {
         return NOWHERE;
     }
+    let n = length.value as usize;
+    let lent = first_words(input, *count);
+    if to_bytes {
+        let mut out = [FILL_BYTE; OUT];
+        return narrowed_bytes(line, length.next, value, lent, &mut out[0..n]);
+    }
     let mut out = [FILL; OUT];
-    let n = a.length;
-    let lent = first_words(input, counts[AT_INPUT]);
-    narrowed(line, a.next, a.wanted, lent, &mut out[0..n])
+    narrowed(line, length.next, value, lent, &mut out[0..n])
 }
 
-fn narrowed(line: &[u8], at: usize, wanted: i64, input: &[u32], out: &mut [u32]) -> usize {
+fn narrowed(line: &[u8], at: usize, wanted: i64, input: &[u32], out: &mut [u32]) -> usize
+    ensures { λ r. ⌜ r ≡ narrowedAt (now (line .entry)) at (narrowOf wanted (now (input .entry)) (now (out .entry))) ⌝ }
+{
     let answer = tray::tray_narrow(wanted, input, out);
     written(line, expect(line, at, answer), out)
 }
 
-// The place after an output that must be as `out` is.
-fn written(line: &[u8], at: usize, out: &[u32]) -> usize {
-    let mut due = [FILL; OUT];
-    let mut count = out.len();
-    let next = words(line, at, &mut due, &mut count);
-    if same_words(first_words(&due, count), out) {
-        next
-    } else {
-        NOWHERE
-    }
-}
-
-// B wanted INPUT length: number OUT.
-pub fn narrowing_bytes(line: &[u8], input: &mut Picture, counts: &mut Counts) -> usize {
-    let a = narrow_case(line, input, counts);
-    if a.next == NOWHERE {
-        return NOWHERE;
-    }
-    let mut out = [FILL_BYTE; OUT];
-    let n = a.length;
-    let lent = first_words(input, counts[AT_INPUT]);
-    narrowed_bytes(line, a.next, a.wanted, lent, &mut out[0..n])
-}
-
-fn narrowed_bytes(line: &[u8], at: usize, wanted: i64, input: &[u32], out: &mut [u8]) -> usize {
+fn narrowed_bytes(line: &[u8], at: usize, wanted: i64, input: &[u32], out: &mut [u8]) -> usize
+    ensures { λ r. ⌜ r ≡ narrowedBytesAt (now (line .entry)) at (narrowBytesOf wanted (now (input .entry)) (now (out .entry))) ⌝ }
+{
     let answer = tray::tray_narrow_bytes(wanted, input, out);
     written_bytes(line, expect(line, at, answer), out)
 }
 
-fn written_bytes(line: &[u8], at: usize, out: &[u8]) -> usize {
+// The next place, where what stands before it is the same as what the library gives.
+pub fn if_same(same: bool, next: usize) -> usize
+    ensures { λ r. ⌜ r ≡ ifSame same next ⌝ }
+{
+    if same {
+        return next;
+    }
+    NOWHERE
+}
+
+// The place after an output that must be as `out` is.
+fn written(line: &[u8], at: usize, out: &[u32]) -> usize
+    ensures { λ r. ⌜ r ≡ writtenAt 4294967295 2779096485 (now (line .entry)) at (now (out .entry)) ⌝ }
+{
+    let mut due = [FILL; OUT];
+    let mut count = out.len();
+    let next = words(line, at, &mut due, &mut count);
+    if_same(same_words(first_words(&due, count), out), next)
+}
+
+fn written_bytes(line: &[u8], at: usize, out: &[u8]) -> usize
+    ensures { λ r. ⌜ r ≡ writtenAt 255 165 (now (line .entry)) at (now (out .entry)) ⌝ }
+{
     let mut due = [FILL_BYTE; OUT];
     let mut count = out.len();
     let next = bytes(line, at, &mut due, &mut count);
-    if check::same(first_bytes(&due, count), out) {
-        next
-    } else {
-        NOWHERE
-    }
+    if_same(check::same(first_bytes(&due, count), out), next)
 }
 
 // The lists of the layers: TABLE ARGS SAMPLES.
@@ -224,7 +210,9 @@ fn composed_in(
     args: &[u32],
     samples: &[u32],
     out: &mut [u32],
-) -> usize {
+) -> usize
+    ensures { λ r. ⌜ r ≡ composedAt (now (line .entry)) at (composeOf (inputsOf (shape .width) (shape .height) (shape .channels) (now (dst .entry)) (pos 1) (now (table .entry)) (now (args .entry)) (now (samples .entry))) (now (out .entry))) ⌝ }
+{
     let answer = tray::tray_compose(
         shape.width,
         shape.height,

@@ -1,5 +1,12 @@
 // The lines of jobs: calls one after the other on the same work buffers and mark.
+ghost use mathlib.Core.Bool.{true};
+ghost use mathlib.Core.Path.{_≡_};
+ghost use lib.ListN.{getD};
+ghost use Rattle.layers.specs.Inputs.{inputsOf};
+ghost use Rattle.vector_lines.specs.Numbers.{nowhere};
+ghost use Rattle.vectors.specs.Jobs.{played, callAt, callsAt, SameMark};
 use crate::cases::Shape;
+use crate::cases::if_same;
 use crate::cases::layers;
 use crate::cases::shape_of;
 use crate::rooms::AT_ARGS;
@@ -125,8 +132,19 @@ fn played(
     )
 }
 
-fn same_mark(a: &Mark, b: &Mark) -> bool {
-    a[0] == b[0] && a[1] == b[1] && a[2] == b[2] && a[3] == b[3]
+fn same_mark(a: &Mark, b: &Mark) -> bool
+    ensures { λ r. ⌜ (r ≡ true → SameMark (now (a .entry)) (now (b .entry))) ⌝ }
+{
+    if a[0] != b[0] {
+        return false;
+    }
+    if a[1] != b[1] {
+        return false;
+    }
+    if a[2] != b[2] {
+        return false;
+    }
+    a[3] == b[3]
 }
 
 // The place after the memory that must be left, which is kept for the next line.
@@ -140,17 +158,29 @@ fn left(
     work1: &mut Picture,
     mark: &mut Mark,
     counts: &mut Counts,
-) -> usize {
+) -> usize
+    ensures { λ r. ⌜ ((r ≡ nowhere → ⊥) → (now (work0 .exit) ≡ now (work0 .entry)) × (now (work1 .exit) ≡ now (work1 .entry)) × SameMark (now (mark .exit)) (now (mark .entry))) ⌝ }
+{
     let n0 = counts[AT_WORK0];
     let n1 = counts[AT_WORK1];
     let n = counts[AT_MARK];
     let next = memory(line, at, due0, due1, due_mark, counts);
-    let same = same_words(due0, work0) && same_words(due1, work1) && same_mark(due_mark, mark);
-    let same_counts = counts[AT_WORK0] == n0 && counts[AT_WORK1] == n1 && counts[AT_MARK] == n;
+    let after0 = if_same(
+        counts[AT_WORK0] == n0,
+        if_same(same_words(due0, work0), next),
+    );
+    let after1 = if_same(
+        counts[AT_WORK1] == n1,
+        if_same(same_words(due1, work1), after0),
+    );
+    let place = if_same(
+        counts[AT_MARK] == n,
+        if_same(same_mark(due_mark, mark), after1),
+    );
     *work0 = *due0;
     *work1 = *due1;
     *mark = *due_mark;
-    if same && same_counts { next } else { NOWHERE }
+    place
 }
 
 // The calls, each with its allowance, on the parts of the memory that are lent.
@@ -210,7 +240,9 @@ fn calls_on(
     work0: &mut [u32],
     work1: &mut [u32],
     mark: &mut [u64],
-) -> usize {
+) -> usize
+    ensures { λ r. ⌜ played r (now (work0 .exit)) (now (work1 .exit)) (now (mark .exit)) ≡ callsAt (now (line .entry)) (inputsOf (shape .width) (shape .height) (shape .channels) (now (dst .entry)) layers (now (table .entry)) (now (args .entry)) (now (samples .entry))) (now (allowances .entry)) (played from (now (work0 .entry)) (now (work1 .entry)) (now (mark .entry))) ⌝ }
+{
     let mut at = from;
     let mut i = 0;
     while i < allowances.len() {
@@ -248,7 +280,9 @@ fn call(
     work0: &mut [u32],
     work1: &mut [u32],
     mark: &mut [u64],
-) -> usize {
+) -> usize
+    ensures { λ r. ⌜ played r (now (work0 .exit)) (now (work1 .exit)) (now (mark .exit)) ≡ callAt (now (line .entry)) (inputsOf (shape .width) (shape .height) (shape .channels) (now (dst .entry)) layers (now (table .entry)) (now (args .entry)) (now (samples .entry))) allowance (played at (now (work0 .entry)) (now (work1 .entry)) (now (mark .entry))) ⌝ }
+{
     let mut layer: u64 = 0;
     let mut stores: u64 = 0;
     let mut finished: u64 = 0;
@@ -275,6 +309,11 @@ fn call(
 }
 
 // The mark as a line shows it: the first number of its list, 0 where there is none.
-fn position(mark: &[u64]) -> u64 {
-    if 0 < mark.len() { mark[0] } else { 0 }
+fn position(mark: &[u64]) -> u64
+    ensures { λ r. ⌜ r ≡ getD (now (mark .entry)) 0 0 ⌝ }
+{
+    if 0 < mark.len() {
+        return mark[0];
+    }
+    0
 }

@@ -10,6 +10,7 @@ use input::Line;
 use input::Window;
 use input::next_line;
 use libc::STDOUT_FILENO;
+use rooms::AT_INPUT;
 use rooms::Args;
 use rooms::Counts;
 use rooms::Mark;
@@ -18,7 +19,14 @@ use rooms::Samples;
 use rooms::Table;
 use vector_lines::NOWHERE;
 use vector_lines::first_bytes;
+use vector_lines::tally;
+ghost use mathlib.Core.Bool.{cond, not, _&&_, _||_};
+ghost use mathlib.Core.Path.{_≡_};
 ghost use Prim.Native.Nat.{_<_};
+ghost use lib.Dec.{ltb};
+ghost use lib.ListN.{getD, take};
+ghost use Rattle.vector_lines.specs.Tally.{tallied};
+ghost use Rattle.vectors.specs.Kinds.{kindOf, answered, asks, kindAt};
 
 // A proved loop has to end, and nothing says that the input does: so many lines are read at most.
 const MOST_LINES: u64 = 0x1_0000_0000;
@@ -30,6 +38,7 @@ const SPOILED: usize = 6;
 
 fn kind_of(first: u8) -> usize
     ensures { λ r. ⌜ r < 6 ⌝ }
+    ensures { λ r. ⌜ r ≡ kindOf first ⌝ }
 {
     match first {
         b'F' => 0,
@@ -57,28 +66,24 @@ fn replayed(
 ) -> usize {
     match kind {
         0 => cases::name(line),
-        1 => cases::narrowing(line, input, counts),
-        2 => cases::narrowing_bytes(line, input, counts),
+        1 => cases::narrowing(line, false, input, &mut counts[AT_INPUT]),
+        2 => cases::narrowing(line, true, input, &mut counts[AT_INPUT]),
         3 => cases::composition(line, dst, table, args, samples, counts),
         4 => jobs::job(line, dst, table, args, samples, work0, work1, mark, counts),
         _ => NOWHERE,
     }
 }
 
-fn raised(n: u64) -> u64 {
-    if n < u64::MAX { n + 1 } else { n }
-}
-
 // Counts a line as right or wrong with its kind, and answers whether it is right.
-fn count(kind: usize, is_right: bool, right: &mut [u64; KINDS], wrong: &mut [u64; KINDS]) -> bool
+fn count(kind: usize, good: bool, right: &mut [u64; KINDS], wrong: &mut [u64; KINDS]) -> bool
     requires { ⌜ kind < 7 ⌝ }
+    ensures { λ r. ⌜ r ≡ good ⌝ }
+    ensures { λ _. ⌜ now (right .exit) ≡ tallied good kind (now (right .entry)) ⌝ }
+    ensures { λ _. ⌜ now (wrong .exit) ≡ tallied (not good) kind (now (wrong .entry)) ⌝ }
 {
-    if is_right {
-        right[kind] = raised(right[kind]);
-    } else {
-        wrong[kind] = raised(wrong[kind]);
-    }
-    is_right
+    tally(right, kind, good);
+    tally(wrong, kind, !good);
+    good
 }
 
 // What a line asks: a spoiled line stands after '!'.
@@ -92,8 +97,23 @@ fn asked(line: &[u8]) -> &[u8] {
     line
 }
 
-fn first(line: &[u8]) -> u8 {
-    if 0 < line.len() { line[0] } else { 0 }
+fn first(line: &[u8]) -> u8
+    ensures { λ r. ⌜ r ≡ getD (now (line .entry)) 0 0 ⌝ }
+{
+    if 0 < line.len() {
+        return line[0];
+    }
+    0
+}
+
+// Whether a line is answered right: its answer ends where the line does. A spoiled line is right where it does not.
+fn is_answered(spoiled: bool, place: usize, end: usize) -> bool
+    ensures { λ r. ⌜ r ≡ answered spoiled place end ⌝ }
+{
+    if spoiled {
+        return place != end;
+    }
+    place == end
 }
 
 // Replays and counts a line; false where it is wrong. A line that is empty or starts with '#' asks nothing. One after '!' is spoiled: it is right that it
@@ -112,15 +132,22 @@ fn is_right(
     counts: &mut Counts,
     right: &mut [u64; KINDS],
     wrong: &mut [u64; KINDS],
-) -> bool {
-    if length == 0 || room[0] == b'#' {
+) -> bool
+    ensures { λ r. ⌜ now (right .exit) ≡ tallied (asks (take length (now (room .entry))) && r) (kindAt (take length (now (room .entry)))) (now (right .entry)) ⌝ }
+    ensures { λ r. ⌜ now (wrong .exit) ≡ tallied (not r) (kindAt (take length (now (room .entry)))) (now (wrong .entry)) ⌝ }
+{
+    let text = first_bytes(room, length);
+    let head = first(text);
+    if text.len() == 0 {
         return true;
     }
-    let line = asked(first_bytes(room, length));
-    let kind = kind_of(first(line));
+    if head == b'#' {
+        return true;
+    }
+    let line = asked(text);
     let place = replayed(
         line,
-        kind,
+        kind_of(first(line)),
         dst,
         table,
         args,
@@ -131,23 +158,34 @@ fn is_right(
         mark,
         counts,
     );
-    if room[0] == b'!' {
-        return count(SPOILED, place != line.len(), right, wrong);
+    if head == b'!' {
+        return count(SPOILED, is_answered(true, place, line.len()), right, wrong);
     }
-    count(kind, place == line.len(), right, wrong)
+    count(
+        kind_of(head),
+        is_answered(false, place, line.len()),
+        right,
+        wrong,
+    )
 }
 
 // The number of the first wrong line, 0 while there is none.
-fn earlier(first_wrong: u64, number: u64, is_right: bool) -> u64 {
-    if is_right || first_wrong > 0 {
-        first_wrong
-    } else {
-        number
+fn earlier(first: u64, number: u64, good: bool) -> u64
+    ensures { λ r. ⌜ r ≡ cond (good || ltb 0 first) first number ⌝ }
+{
+    if good {
+        return first;
     }
+    if first > 0 {
+        return first;
+    }
+    number
 }
 
 // Replays every line, and answers the number of the first that is wrong, 0 where none is.
-fn replay(right: &mut [u64; KINDS], wrong: &mut [u64; KINDS]) -> u64 {
+fn replay(right: &mut [u64; KINDS], wrong: &mut [u64; KINDS]) -> u64
+    ensures { λ r. ⌜ (r ≡ 0 → now (wrong .exit) ≡ now (wrong .entry)) ⌝ }
+{
     let mut line: Line = [0; 8192];
     let mut chunk: Chunk = [0; 4096];
     let mut window: Window = [0; 2];

@@ -1,0 +1,66 @@
+-- What each kind of line asks, and where its answer ends: `nowhere` where it is not what the library gives. Definitions only.
+use mathlib.Core.Bool.{Bool, cond}
+use mathlib.Core.List.{List}
+use Prim.Native.Nat.{ℕ}
+use lib.Dec.{ltb}
+use lib.IntN.{ℤ}
+use lib.ListN.{length, take, replicate}
+use Rattle.vector_lines.specs.declared.numbers.Unsigned.{Unsigned}
+use Rattle.vector_lines.specs.Numbers.{nowhere, largest, numberAt, expectedAt, signedAt}
+use Rattle.vector_lines.specs.Lists.{Listed, numbersAt, same}
+use Rattle.names.specs.Names.{fromName}
+use Rattle.narrowing.specs.Narrow.{Narrowed, narrowOf, narrowBytesOf}
+use Rattle.compose.specs.Single.{Composed, composeOf}
+use Rattle.layers.specs.Inputs.{Inputs}
+use Rattle.tray.specs.Answers.{NameAnswer, nameOf}
+
+-- what a list has that was read
+abbrev pub given : {A : Type 0} → Listed A → List A
+given l = take (l .count) (l .list)
+
+-- ---- names
+
+-- number operator
+abbrev pub namedAt : List ℕ → ℕ → NameAnswer → ℕ
+namedAt line at a = expectedAt line (expectedAt line at (a .number)) (a .operator)
+
+-- F NAME: number operator
+unfoldable pub nameBy : List ℕ → Listed ℕ → ℕ
+nameBy line text = namedAt line (text .next) (nameOf (fromName (given text)) 0)
+
+abbrev pub nameAt : List ℕ → ℕ
+nameAt line = nameBy line (numbersAt 255 line 1 (replicate 128 0) 0)
+
+-- ---- outputs
+
+-- the next place after what was compared, if it is the same
+unfoldable pub ifSame : Bool → ℕ → ℕ
+ifSame is-same next = cond is-same next nowhere
+
+-- the place after an output's list, if the output is that
+unfoldable pub listedAs : List ℕ → Listed ℕ → ℕ
+listedAs out due = ifSame (same (given due) out) (due .next)
+
+-- an output of numbers up to `most`, each of which is `fill` before the call; '=' stands for one that is as it was
+abbrev pub writtenAt : (most fill : ℕ) → List ℕ → ℕ → List ℕ → ℕ
+writtenAt most fill line at out = listedAs out (numbersAt most line at (replicate 256 fill) (length out))
+
+-- number OUT, of words and of bytes
+abbrev pub wordsAfter : List ℕ → ℕ → ℕ → List ℕ → ℕ
+wordsAfter line at number out = writtenAt 4294967295 2779096485 line (expectedAt line at number) out
+
+abbrev pub bytesAfter : List ℕ → ℕ → ℕ → List ℕ → ℕ
+bytesAfter line at number out = writtenAt 255 165 line (expectedAt line at number) out
+
+-- ---- narrowings
+
+abbrev pub narrowedAt : List ℕ → ℕ → Narrowed → ℕ
+narrowedAt line at n = wordsAfter line at (n .number) (n .output)
+
+abbrev pub narrowedBytesAt : List ℕ → ℕ → Narrowed → ℕ
+narrowedBytesAt line at n = bytesAfter line at (n .number) (n .output)
+
+-- ---- compositions
+
+abbrev pub composedAt : List ℕ → ℕ → Composed → ℕ
+composedAt line at c = wordsAfter line at (c .number) (c .output)

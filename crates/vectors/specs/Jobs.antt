@@ -1,0 +1,39 @@
+-- What a line of a job asks, call after call, and where its answers end. Definitions only.
+use mathlib.Core.List.{List, [], _∷_}
+use mathlib.Core.Path.{_≡_}
+use Prim.Native.Nat.{ℕ}
+use lib.ListN.{getD}
+use Rattle.vector_lines.specs.Numbers.{expectedAt}
+use Rattle.layers.specs.Inputs.{Inputs}
+use Rattle.job.specs.Memory.{Mem, memOf, positionOf}
+use Rattle.job.specs.Call.{callOf}
+use Rattle.tray.specs.Answers.{HostOutcome, jobOutcome}
+
+-- a place in the line, and the job's memory
+pub record Played : Type 0 where
+  pub next : ℕ
+  pub mem : Mem
+
+abbrev pub played : ℕ → List ℕ → List ℕ → List ℕ → Played
+played next work0 work1 mark = record { next = next; mem = memOf work0 work1 mark }
+
+-- number layer stores finished mark
+abbrev pub outcomeAt : List ℕ → ℕ → HostOutcome → Played
+outcomeAt line at o = record {
+  next = expectedAt line
+      (expectedAt line (expectedAt line (expectedAt line (expectedAt line at (o .number)) (o .layer)) (o .stores)) (o .finished))
+      (positionOf (o .mem));
+  mem = o .mem;
+}
+
+-- a call, and the calls one after the other
+abbrev pub callAt : List ℕ → Inputs → ℕ → Played → Played
+callAt line inputs allowance p = outcomeAt line (p .next) (jobOutcome (callOf inputs allowance (p .mem)))
+
+unfoldable pub callsAt : List ℕ → Inputs → List ℕ → Played → Played
+callsAt line inputs [] p = p
+callsAt line inputs (allowance ∷ rest) p = callsAt line inputs rest (callAt line inputs allowance p)
+
+-- the marks are the same: each of the four numbers that there is room for
+abbrev pub SameMark : List ℕ → List ℕ → Type 0
+SameMark a b = (getD a 0 0 ≡ getD b 0 0) × (getD a 1 0 ≡ getD b 1 0) × (getD a 2 0 ≡ getD b 2 0) × (getD a 3 0 ≡ getD b 3 0)
