@@ -12,6 +12,7 @@ use float_steps::words::value;
 use float_steps::words::word;
 use libc::STDIN_FILENO;
 use libc::STDOUT_FILENO;
+use vector_lines::tally;
 ghost use Prim.Native.Nat.{_<_};
 
 // How many steps there are, and how long a row is, its line end counted.
@@ -102,10 +103,6 @@ fn right(step: u64, row: &[u8]) -> bool {
     given(step, operand(row, 3), operand(row, 12), operand(row, 21)) == number(row, 30, 46)
 }
 
-fn raised(n: u64) -> u64 {
-    if n < u64::MAX { n + 1 } else { n }
-}
-
 // Counts a row with its step; a line that starts with '#' is a comment.
 fn count(row: &[u8; ROW], good: &mut [u64; STEPS], bad: &mut [u64; STEPS]) {
     if row[0] == b'#' {
@@ -116,11 +113,9 @@ fn count(row: &[u8; ROW], good: &mut [u64; STEPS], bad: &mut [u64; STEPS]) {
         return;
     }
     let i = step as usize;
-    if right(step, row) {
-        good[i] = raised(good[i]);
-    } else {
-        bad[i] = raised(bad[i]);
-    }
+    let is_right = right(step, row);
+    tally(good, i, is_right);
+    tally(bad, i, !is_right);
 }
 
 fn name(step: u64) -> bool {

@@ -16,6 +16,7 @@ pub answered : (line : List ℕ) (at : ℕ) {got due : HostOutcome} {p r1 r2 r3 
     → r1 ≡ expectedAt line at (got .number) → r2 ≡ expectedAt line r1 (got .layer) → r3 ≡ expectedAt line r2 (got .stores)
     → r4 ≡ expectedAt line r3 (got .finished) → p ≡ positionOf (got .mem) → r5 ≡ expectedAt line r4 p
     → _≡_ {A = Played} (record { next = r5; mem = got .mem }) (outcomeAt line at due)
+unfolding outcomeAt
 answered line at told e1 e2 e3 e4 e e5 = rw (e5, e, e4, e3, e2, e1, told)
 
 module _ (line : List ℕ) (inputs : Inputs) (allowances : List ℕ) (i : ℕ) (p : Played) where

@@ -18,7 +18,7 @@ abbrev pub played : ℕ → List ℕ → List ℕ → List ℕ → Played
 played next work0 work1 mark = record { next = next; mem = memOf work0 work1 mark }
 
 -- number layer stores finished mark
-abbrev pub outcomeAt : List ℕ → ℕ → HostOutcome → Played
+unfoldable pub outcomeAt : List ℕ → ℕ → HostOutcome → Played
 outcomeAt line at o = record {
   next = expectedAt line
       (expectedAt line (expectedAt line (expectedAt line (expectedAt line at (o .number)) (o .layer)) (o .stores)) (o .finished))
