@@ -1,13 +1,18 @@
 -- Laws on lists that were read from a line. Assumes nothing.
-use mathlib.Core.Path.{_≡_, refl, _∙_}
+use mathlib.Core.Path.{_≡_, refl, ap, _∙_}
 use mathlib.Core.Bool.{Bool, true, false}
 use mathlib.Core.List.{List}
-use Prim.Native.Nat.{ℕ}
-use Rattle.vector_lines.specs.Numbers.{nowhere}
-use Rattle.vector_lines.specs.Lists.{Listed, same}
+use Prim.Native.Nat.{ℕ, _<_, _≤_}
+use lib.IntN.{ℤ}
+use borrow.Author.Tests.{lt-ltb, le-ltb}
+use Rattle.vector_lines.specs.declared.numbers.Integer.{Integer}
+use Rattle.vector_lines.specs.declared.numbers.Unsigned.{Unsigned}
+use Rattle.vector_lines.specs.Numbers.{nowhere, largest, numberAt}
+use Rattle.vector_lines.specs.Lists.{Listed, numbersAt, same}
 use Rattle.names.specs.Names.{fromName}
+use Rattle.narrowing.specs.Narrow.{narrowOf, narrowBytesOf}
 use Rattle.tray.specs.Answers.{nameOf}
-use Rattle.vectors.specs.Cases.{given, namedAt, nameBy, ifSame, listedAs}
+use Rattle.vectors.specs.Cases.{given, namedAt, nameBy, ifSame, listedAs, lentOf, narrowedAt, narrowedBytesAt, narrowingBy, narrowingFrom, narrowingAfter}
 
 pub as-listed : {l m : Listed ℕ} (out : List ℕ) {t : Bool} → l ≡ m → t ≡ same (given l) out → ifSame t (l .next) ≡ listedAs out m
 unfolding listedAs
@@ -22,3 +27,40 @@ pub passed : (t : Bool) (x : ℕ) {r : ℕ} → r ≡ ifSame t x → (r ≡ nowh
 unfolding ifSame
 passed true x e some = (refl, λ z. some (e ∙ z))
 passed false x e some = absurd (some e)
+
+-- a narrowing, from what was read: its list, the length of its output, and what is wanted
+module _ (toBytes : Bool) (line : List ℕ) where
+  length-read : (v : ℤ) (l : Listed ℕ) (n : Unsigned) → n ≡ numberAt largest line (l .next)
+      → narrowingBy toBytes line v (given l) n ≡ narrowingFrom toBytes line v l
+  unfolding narrowingFrom
+  length-read v l n e = rw e
+
+  wanted-read : (w : Integer) (input : List ℕ) (count : ℕ)
+      → narrowingFrom toBytes line (w .value) (numbersAt 4294967295 line (w .next) input count) ≡ narrowingAfter toBytes line w input count
+  unfolding narrowingAfter
+  wanted-read w input count = refl
+
+  pub narrowing-read : {w due : Integer} {l : Listed ℕ} {n : Unsigned} (input : List ℕ) (count : ℕ) → w ≡ due
+      → l ≡ numbersAt 4294967295 line (w .next) input count → n ≡ numberAt largest line (l .next)
+      → narrowingBy toBytes line (w .value) (given l) n ≡ narrowingAfter toBytes line due input count
+  narrowing-read {w} {due} {l} {n} input count e read h =
+      length-read (w .value) l n h
+      ∙ ap (λ (x : Listed ℕ). narrowingFrom toBytes line (w .value) x) read
+      ∙ wanted-read w input count
+      ∙ ap (λ (x : Integer). narrowingAfter toBytes line x input count) e
+
+  -- an output that is too long, one of bytes, and one of words
+  module _ (v : ℤ) (input : List ℕ) (n : Unsigned) where
+    pub too-long : 256 < n .value → nowhere ≡ narrowingBy toBytes line v input n
+    unfolding narrowingBy
+    too-long h = rw (lt-ltb 256 (n .value) h)
+
+    pub in-bytes : n .value ≤ 256 → toBytes ≡ true
+        → narrowedBytesAt line (n .next) (narrowBytesOf v input (lentOf 165 (n .value))) ≡ narrowingBy toBytes line v input n
+    unfolding narrowingBy
+    in-bytes h t = rw (le-ltb 256 (n .value) h, t)
+
+    pub in-words : n .value ≤ 256 → toBytes ≡ false
+        → narrowedAt line (n .next) (narrowOf v input (lentOf 2779096485 (n .value))) ≡ narrowingBy toBytes line v input n
+    unfolding narrowingBy
+    in-words h t = rw (le-ltb 256 (n .value) h, t)

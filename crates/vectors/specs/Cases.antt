@@ -5,17 +5,17 @@ use Prim.Native.Nat.{ℕ}
 use lib.Dec.{ltb}
 use lib.IntN.{ℤ}
 use lib.ListN.{length, take, replicate}
+use Rattle.vector_lines.specs.declared.numbers.Integer.{Integer}
 use Rattle.vector_lines.specs.declared.numbers.Unsigned.{Unsigned}
 use Rattle.vector_lines.specs.Numbers.{nowhere, largest, numberAt, expectedAt, signedAt}
 use Rattle.vector_lines.specs.Lists.{Listed, numbersAt, same}
 use Rattle.names.specs.Names.{fromName}
 use Rattle.narrowing.specs.Narrow.{Narrowed, narrowOf, narrowBytesOf}
-use Rattle.compose.specs.Single.{Composed, composeOf}
-use Rattle.layers.specs.Inputs.{Inputs}
+use Rattle.compose.specs.Single.{Composed}
 use Rattle.tray.specs.Answers.{NameAnswer, nameOf}
 
 -- what a list has that was read
-abbrev pub given : {A : Type 0} → Listed A → List A
+abbrev pub given : Listed ℕ → List ℕ
 given l = take (l .count) (l .list)
 
 -- ---- names
@@ -54,11 +54,32 @@ bytesAfter line at number out = writtenAt 255 165 line (expectedAt line at numbe
 
 -- ---- narrowings
 
-abbrev pub narrowedAt : List ℕ → ℕ → Narrowed → ℕ
+unfoldable pub narrowedAt : List ℕ → ℕ → Narrowed → ℕ
 narrowedAt line at n = wordsAfter line at (n .number) (n .output)
 
-abbrev pub narrowedBytesAt : List ℕ → ℕ → Narrowed → ℕ
+unfoldable pub narrowedBytesAt : List ℕ → ℕ → Narrowed → ℕ
 narrowedBytesAt line at n = bytesAfter line at (n .number) (n .output)
+
+-- the output that a line lends: so many elements, each a fill
+abbrev pub lentOf : (fill count : ℕ) → List ℕ
+lentOf fill count = take count (replicate 256 fill)
+
+-- N and B, to words and to bytes, wanted INPUT length: number OUT. No output is longer than 256.
+unfoldable pub narrowingBy : (toBytes : Bool) → List ℕ → ℤ → List ℕ → Unsigned → ℕ
+narrowingBy toBytes line wanted input length =
+    cond (ltb 256 (length .value)) nowhere
+    (cond toBytes (narrowedBytesAt line (length .next) (narrowBytesOf wanted input (lentOf 165 (length .value))))
+    (narrowedAt line (length .next) (narrowOf wanted input (lentOf 2779096485 (length .value)))))
+
+unfoldable pub narrowingFrom : (toBytes : Bool) → List ℕ → ℤ → Listed ℕ → ℕ
+narrowingFrom toBytes line wanted input = narrowingBy toBytes line wanted (given input) (numberAt largest line (input .next))
+
+unfoldable pub narrowingAfter : (toBytes : Bool) → List ℕ → Integer → List ℕ → ℕ → ℕ
+narrowingAfter toBytes line wanted input count =
+    narrowingFrom toBytes line (wanted .value) (numbersAt 4294967295 line (wanted .next) input count)
+
+abbrev pub narrowingAt : (toBytes : Bool) → List ℕ → List ℕ → ℕ → ℕ
+narrowingAt toBytes line = narrowingAfter toBytes line (signedAt line 1)
 
 -- ---- compositions
 

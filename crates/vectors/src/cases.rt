@@ -7,7 +7,7 @@ ghost use Rattle.narrowing.specs.Narrow.{narrowOf, narrowBytesOf};
 ghost use Rattle.layers.specs.Inputs.{inputsOf};
 ghost use Rattle.compose.specs.Single.{composeOf};
 ghost use Rattle.tray.specs.Answers.{nameOf};
-ghost use Rattle.vectors.specs.Cases.{nameAt, namedAt, ifSame, writtenAt, narrowedAt, narrowedBytesAt, composedAt};
+ghost use Rattle.vectors.specs.Cases.{nameAt, namedAt, ifSame, writtenAt, narrowingAt, narrowedAt, narrowedBytesAt, composedAt};
 use crate::rooms::AT_ARGS;
 use crate::rooms::AT_DST;
 use crate::rooms::AT_SAMPLES;
@@ -54,7 +54,9 @@ fn named(line: &[u8], at: usize, text: &[u8]) -> usize
 }
 
 // N or B, to words or to bytes, wanted INPUT length: number OUT.
-pub fn narrowing(line: &[u8], to_bytes: bool, input: &mut Picture, count: &mut usize) -> usize {
+pub fn narrowing(line: &[u8], as_bytes: bool, input: &mut Picture, count: &mut usize) -> usize
+    ensures { λ r. ⌜ r ≡ narrowingAt «as_bytes» (now (line .entry)) (now (input .entry)) (now (count .entry)) ⌝ }
+{
     let wanted = signed(line, 1);
     let length = number(line, words(line, wanted.next, input, count));
     let value = wanted.value;
@@ -63,7 +65,7 @@ pub fn narrowing(line: &[u8], to_bytes: bool, input: &mut Picture, count: &mut u
     }
     let n = length.value as usize;
     let lent = first_words(input, *count);
-    if to_bytes {
+    if as_bytes {
         let mut out = [FILL_BYTE; OUT];
         return narrowed_bytes(line, length.next, value, lent, &mut out[0..n]);
     }

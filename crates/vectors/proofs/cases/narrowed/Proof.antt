@@ -8,6 +8,7 @@ use Rattle.vectors.proofs.cases.narrowed.Statement.{statement}
 use Rattle.vectors.proofs.cases.narrowed.Tie as tie
 
 returns : tie.Need-returns
+unfolding narrowedAt
 returns c =
     let e = c .before .before in
     let t = e .before .before .before in

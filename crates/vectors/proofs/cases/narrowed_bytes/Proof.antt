@@ -8,6 +8,7 @@ use Rattle.vectors.proofs.cases.narrowed_bytes.Statement.{statement}
 use Rattle.vectors.proofs.cases.narrowed_bytes.Tie as tie
 
 returns : tie.Need-returns
+unfolding narrowedBytesAt
 returns c =
     let e = c .before .before in
     let t = e .before .before .before in
