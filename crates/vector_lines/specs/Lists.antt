@@ -1,11 +1,11 @@
 -- What a list of a line means: its numbers, one after the other, from a place on.
-use mathlib.Core.Bool.{Bool, true, false, _&&_}
+use mathlib.Core.Bool.{Bool, true, false, cond, _&&_}
 use mathlib.Core.List.{List, [], _∷_}
 use Prim.Native.Nat.{ℕ, zero, suc}
 use lib.Dec.{eqb}
 use lib.IntN.{ℤ}
 use lib.ListN.{length, set}
-use Rattle.vector_lines.specs.Numbers.{numberAt, signedAt, headAt, countAt}
+use Rattle.vector_lines.specs.Numbers.{nowhere, numberAt, signedAt, headAt, countAt}
 
 -- the place after i numbers, where `next` is the place after one
 unfoldable pub placeOf : (ℕ → ℕ) → ℕ → ℕ → ℕ
@@ -47,3 +47,7 @@ same [] [] = true
 same [] (y ∷ ys) = false
 same (x ∷ xs) [] = false
 same (x ∷ xs) (y ∷ ys) = eqb x y && same xs ys
+
+-- the next place after what was compared, if it is the same
+unfoldable pub ifSame : Bool → ℕ → ℕ
+ifSame is-same next = cond is-same next nowhere

@@ -2,7 +2,8 @@
 ghost use mathlib.Core.Path.{_≡_};
 ghost use lib.ListN.{take};
 ghost use Rattle.vector_lines.specs.Numbers.{largest};
-ghost use Rattle.vector_lines.specs.Lists.{listed, numbersAt, integersAt, same};
+ghost use Rattle.vector_lines.specs.Lists.{listed, numbersAt, integersAt, same, ifSame};
+use crate::NOWHERE;
 use crate::numbers::head_of;
 use crate::numbers::number;
 use crate::numbers::number_up_to;
@@ -124,4 +125,14 @@ pub fn same_words(a: &[u32], b: &[u32]) -> bool
         i += 1;
     }
     true
+}
+
+// The place after what was compared, where it was the same.
+pub fn if_same(is_same: bool, next: usize) -> usize
+    ensures { λ r. ⌜ r ≡ ifSame «is_same» next ⌝ }
+{
+    if is_same {
+        return next;
+    }
+    NOWHERE
 }

@@ -8,11 +8,11 @@ use borrow.Author.Tests.{lt-ltb, le-ltb}
 use Rattle.vector_lines.specs.declared.numbers.Integer.{Integer}
 use Rattle.vector_lines.specs.declared.numbers.Unsigned.{Unsigned}
 use Rattle.vector_lines.specs.Numbers.{nowhere, largest, numberAt}
-use Rattle.vector_lines.specs.Lists.{Listed, numbersAt, same}
+use Rattle.vector_lines.specs.Lists.{Listed, numbersAt, same, ifSame}
 use Rattle.names.specs.Names.{fromName}
 use Rattle.narrowing.specs.Narrow.{narrowOf, narrowBytesOf}
 use Rattle.tray.specs.Answers.{nameOf}
-use Rattle.vectors.specs.Cases.{given, namedAt, nameBy, ifSame, listedAs, lentOf, narrowedAt, narrowedBytesAt, narrowingBy, narrowingFrom, narrowingAfter}
+use Rattle.vectors.specs.Cases.{given, namedAt, nameBy, listedAs, lentOf, narrowedAt, narrowedBytesAt, narrowingBy, narrowingFrom, narrowingAfter}
 
 pub as-listed : {l m : Listed ℕ} (out : List ℕ) {t : Bool} → l ≡ m → t ≡ same (given l) out → ifSame t (l .next) ≡ listedAs out m
 unfolding listedAs

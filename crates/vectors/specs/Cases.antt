@@ -8,7 +8,7 @@ use lib.ListN.{length, take, replicate}
 use Rattle.vector_lines.specs.declared.numbers.Integer.{Integer}
 use Rattle.vector_lines.specs.declared.numbers.Unsigned.{Unsigned}
 use Rattle.vector_lines.specs.Numbers.{nowhere, largest, numberAt, expectedAt, signedAt}
-use Rattle.vector_lines.specs.Lists.{Listed, numbersAt, same}
+use Rattle.vector_lines.specs.Lists.{Listed, numbersAt, same, ifSame}
 use Rattle.names.specs.Names.{fromName}
 use Rattle.narrowing.specs.Narrow.{Narrowed, narrowOf, narrowBytesOf}
 use Rattle.compose.specs.Single.{Composed}
@@ -32,10 +32,6 @@ abbrev pub nameAt : List ℕ → ℕ
 nameAt line = nameBy line (numbersAt 255 line 1 (replicate 128 0) 0)
 
 -- ---- outputs
-
--- the next place after what was compared, if it is the same
-unfoldable pub ifSame : Bool → ℕ → ℕ
-ifSame is-same next = cond is-same next nowhere
 
 -- the place after an output's list, if the output is that
 unfoldable pub listedAs : List ℕ → Listed ℕ → ℕ

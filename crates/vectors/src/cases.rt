@@ -7,7 +7,7 @@ ghost use Rattle.narrowing.specs.Narrow.{narrowOf, narrowBytesOf};
 ghost use Rattle.layers.specs.Inputs.{inputsOf};
 ghost use Rattle.compose.specs.Single.{composeOf};
 ghost use Rattle.tray.specs.Answers.{nameOf};
-ghost use Rattle.vectors.specs.Cases.{nameAt, namedAt, ifSame, writtenAt, narrowingAt, narrowedAt, narrowedBytesAt, composedAt};
+ghost use Rattle.vectors.specs.Cases.{nameAt, namedAt, writtenAt, narrowingAt, narrowedAt, narrowedBytesAt, composedAt};
 use crate::rooms::AT_ARGS;
 use crate::rooms::AT_DST;
 use crate::rooms::AT_SAMPLES;
@@ -24,6 +24,7 @@ use vector_lines::expect;
 use vector_lines::first_bytes;
 use vector_lines::first_integers;
 use vector_lines::first_words;
+use vector_lines::if_same;
 use vector_lines::integers;
 use vector_lines::number;
 use vector_lines::same_words;
@@ -85,16 +86,6 @@ fn narrowed_bytes(line: &[u8], at: usize, wanted: i64, input: &[u32], out: &mut 
 {
     let answer = tray::tray_narrow_bytes(wanted, input, out);
     written_bytes(line, expect(line, at, answer), out)
-}
-
-// The next place, where what stands before it is the same as what the library gives.
-pub fn if_same(same: bool, next: usize) -> usize
-    ensures { λ r. ⌜ r ≡ ifSame same next ⌝ }
-{
-    if same {
-        return next;
-    }
-    NOWHERE
 }
 
 // The place after an output that must be as `out` is.

@@ -1,6 +1,5 @@
 -- `earlier` meets its contract: the tests are the definition's. Assumes nothing.
 use borrow.Author.Tests.{lt-ltb, le-ltb}
-use borrow.Author.Needs.{needs}
 use Rattle.vectors.proofs.earlier.Statement.{statement}
 use Rattle.vectors.proofs.earlier.Tie as tie
 

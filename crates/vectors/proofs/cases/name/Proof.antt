@@ -1,5 +1,4 @@
 -- `name` meets its contract, by its callees'. Assumes nothing.
-use Rattle.vectors.specs.Cases.{nameBy}
 use Rattle.vectors.proofs.Laws.{name-listed}
 use borrow.Author.Needs.{needs}
 use Rattle.vectors.proofs.cases.name.Statement.{statement}

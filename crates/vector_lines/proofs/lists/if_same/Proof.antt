@@ -1,7 +1,7 @@
 -- `if_same` meets its contract: the test is the definition's. Assumes nothing.
-use Rattle.vectors.specs.Cases.{ifSame}
-use Rattle.vectors.proofs.cases.if_same.Statement.{statement}
-use Rattle.vectors.proofs.cases.if_same.Tie as tie
+use Rattle.vector_lines.specs.Lists.{ifSame}
+use Rattle.vector_lines.proofs.lists.if_same.Statement.{statement}
+use Rattle.vector_lines.proofs.lists.if_same.Tie as tie
 
 pub if-same-spec : {M : Type 1} → statement M
 unfolding ifSame
