@@ -1,7 +1,7 @@
--- `pixels::pixel` meets its contract: the arm that gave the pixel is its operator's. Assumes nothing.
+-- `paint::pixel` meets its contract: the arm that gave the pixel is its operator's. Assumes nothing.
 use borrow.Author.Needs.{needs}
-use Rattle.pixels.proofs.pixel.Statement.{statement}
-use Rattle.pixels.proofs.pixel.Tie as tie
+use Rattle.paint.proofs.pixel.Statement.{statement}
+use Rattle.paint.proofs.pixel.Tie as tie
 
 returns : tie.Need-returns
 returns c = rw (c .before .paint .ensures .0) (c .before .paint .ensures .1)
