@@ -3,31 +3,17 @@ use mathlib.Core.Path.{_≡_, refl}
 use Prim.Native.Nat.{ℕ, _*_, _≤_}
 use native.Mathlib.Nat.{mul-le-mul}
 use native.Mathlib.Omega.{arith}
-use lib.ListN.{length}
 use Rattle.places.specs.Bounds.{slack, Measured}
 use Rattle.places.proofs.Anchors.{corner-x, corner-y}
-use Rattle.layers.specs.Cells.{natOf}
-use Rattle.layers.specs.Inputs.{Inputs}
 use Rattle.layers.specs.declared.Layer.{Layer}
-use Rattle.layers.proofs.Accepted.{Accepted}
-use Rattle.layers.proofs.Ranges.{channels-least, channels-most}
+use Rattle.layers.specs.GoodLayers.{Picture}
 use Rattle.compose.specs.Compose.{planOf}
 use Rattle.compose.specs.declared.Plan.{Plan}
-use Rattle.compose.specs.Ready.{Ready, Picture, Run}
+use Rattle.compose.specs.Ready.{Ready, Run}
 
 -- a product of two sides
 pub plane : (w h : ℕ) → w ≤ slack → h ≤ slack → w * h ≤ slack * slack
 plane w h a b = mul-le-mul a b
-
--- the destination of accepted inputs
-pub destination : (i : Inputs) → Accepted i → Picture (natOf (i .width)) (natOf (i .height)) (natOf (i .channels)) (length (i .dst))
-destination i g = record {
-  width = g .shape .wide .most;
-  height = g .shape .high .most;
-  some = channels-least _ (g .shape .deep .kind);
-  most = channels-most _ (g .shape .deep .kind);
-  whole = g .dst;
-}
 
 module _ (l : Layer) (dw dh : ℕ) (m : Measured dw dh (l .source .width) (l .source .height) (l .right) (l .down)) where
   ready : (p : Plan) → p ≡ planOf l dw dh → 1 ≤ l .source .channels → l .source .channels ≤ 4 → Ready p (l .source .width * l .source .height * l .source .channels)

@@ -3,6 +3,7 @@ use mathlib.Core.Path.{_≡_}
 use Prim.Native.Nat.{ℕ, _+_, _*_, _<_, _≤_}
 use lib.Signed.{mag}
 use Rattle.places.specs.Bounds.{slack, reach}
+use Rattle.layers.specs.GoodLayers.{Picture}
 use Rattle.compose.specs.declared.Plan.{Plan}
 
 -- the plan's source, whose samples are so many, lies within reach of the destination
@@ -14,14 +15,6 @@ pub record Ready (p : Plan) (source : ℕ) : Type 0 where
   pub some : 1 ≤ p .channels
   pub most : p .channels ≤ 4
   pub whole : source ≡ p .width * p .height * p .channels
-
--- a picture of dw by dh pixels and so many channels, whose words are so many
-pub record Picture (dw dh channels words : ℕ) : Type 0 where
-  pub width : dw ≤ slack
-  pub height : dh ≤ slack
-  pub some : 1 ≤ channels
-  pub most : channels ≤ 4
-  pub whole : words ≡ dw * dh * channels
 
 -- pixel j of the picture beneath, whose words are so many, of so many channels
 pub record Beneath (p : Plan) (words channels j : ℕ) : Type 0 where

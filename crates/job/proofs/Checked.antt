@@ -11,8 +11,7 @@ use Rattle.places.specs.Bounds.{slack}
 use Rattle.layers.specs.declared.Verdict.{Verdict}
 use Rattle.layers.specs.Cells.{natOf}
 use Rattle.layers.specs.Inputs.{Inputs, verdict, jobFault}
-use Rattle.layers.proofs.Accepted.{accepted, row-held, words-held}
-use Rattle.compose.proofs.Placed.{destination}
+use Rattle.layers.proofs.Accepted.{accepted, row-held, words-held, destination}
 use Rattle.job.specs.Memory.{Mem, positionOf}
 use Rattle.job.specs.Job.{pixelCount, layerCount, endOf, memoryFault, callFault, acceptance, refusal}
 use Rattle.job.specs.Call.{setting, settingOf, runOf, madeOf, Outcome, acceptedOf, callOf}

@@ -3,14 +3,14 @@ use mathlib.Core.Path.{_≡_}
 use mathlib.Core.List.{List}
 use Prim.Native.Nat.{ℕ, zero, suc, _+_, _-_, _*_, _/_, _%_, _<_, _≤_}
 use lib.ListN.{length, getD, take}
-use Rattle.layers.specs.GoodLayers.{GoodLayer}
+use Rattle.layers.specs.GoodLayers.{GoodLayer, Picture}
 use Rattle.layers.specs.Layers.{layerAt}
 use Rattle.layers.specs.Limits.{columns, argWords}
 use Rattle.pictures.specs.declared.Words.{Words}
 use Rattle.pictures.specs.Widen.{rgbaAt, valuesOf}
 use Rattle.compose.specs.declared.Plan.{Plan}
 use Rattle.compose.specs.Compose.{composedBy}
-use Rattle.compose.specs.Ready.{Ready, Picture}
+use Rattle.compose.specs.Ready.{Ready}
 use Rattle.job.specs.declared.Write.the-variants.{Checkpoint}
 use Rattle.job.specs.Memory.{Mem, positionOf, stored, fiveWrites}
 use Rattle.job.specs.Call.{Setting, area, runOf}

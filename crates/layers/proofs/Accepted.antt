@@ -16,12 +16,12 @@ use Rattle.layers.specs.declared.Layer.{Layer}
 use Rattle.layers.specs.declared.Verdict.{Verdict}
 use Rattle.layers.specs.Cells.{cellOf, natOf, outsideZ, badShape, areaOf}
 use Rattle.layers.specs.Faults.{firstOf, faultIf, badOffset, badPlacing, badSource, layerChecks, layerFault}
-use Rattle.layers.specs.GoodLayers.{GoodLayer}
+use Rattle.layers.specs.GoodLayers.{GoodLayer, Picture}
 use Rattle.layers.specs.Inputs.{Inputs, verdict, badStack, badDst, rowsFault, jobFault}
 use Rattle.layers.specs.Layers.{layerAt}
 use Rattle.layers.specs.Limits.{columns, argWords, mostLayers, mostOffset, atOperator, atGravity, atRight, atDown, atFirst, atWidth, atHeight, atChannels, atCount}
 use Rattle.layers.proofs.Carried.{carried}
-use Rattle.layers.proofs.Ranges.{Ranged, ranged, Shaped, shaped, both-fail, not-fails}
+use Rattle.layers.proofs.Ranges.{Ranged, ranged, Shaped, shaped, both-fail, not-fails, channels-least, channels-most}
 
 -- inputs without a fault
 pub record Accepted (i : Inputs) : Type 0 where
@@ -191,4 +191,14 @@ measured dw dh samples l wide high g = record {
   height = g .height;
   offset-right = g .right;
   offset-down = g .down;
+}
+
+-- the destination of accepted inputs
+pub destination : (i : Inputs) → Accepted i → Picture (natOf (i .width)) (natOf (i .height)) (natOf (i .channels)) (length (i .dst))
+destination i g = record {
+  width = g .shape .wide .most;
+  height = g .shape .high .most;
+  some = channels-least _ (g .shape .deep .kind);
+  most = channels-most _ (g .shape .deep .kind);
+  whole = g .dst;
 }

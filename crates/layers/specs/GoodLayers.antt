@@ -1,4 +1,4 @@
--- A layer whose row has no fault (document 01, checks 3 to 8), as facts that the crates above ask for. Sides and offsets are
+-- A layer whose row has no fault (document 01, checks 3 to 8), and a picture that it may lie on, as facts that the crates above ask for. Sides and offsets are
 -- bounded by the slack of the crate places, not by the job's own limits. Definitions only.
 use mathlib.Core.Path.{_≡_}
 use Prim.Native.Nat.{ℕ, _+_, _*_, _≤_}
@@ -25,3 +25,11 @@ pub record GoodLayer (samples : ℕ) (l : Layer) : Type 0 where
   pub channels : Channels (l .source .channels)
   pub held : l .source .first + l .source .width * l .source .height * l .source .channels ≤ samples
   pub count : l .args .count ≤ argWords
+
+-- a picture of dw by dh pixels and so many channels, whose words are so many
+pub record Picture (dw dh channels words : ℕ) : Type 0 where
+  pub width : dw ≤ slack
+  pub height : dh ≤ slack
+  pub some : 1 ≤ channels
+  pub most : channels ≤ 4
+  pub whole : words ≡ dw * dh * channels

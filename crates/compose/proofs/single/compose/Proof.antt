@@ -9,9 +9,9 @@ use mir.Facts.{toZ-ofZ}
 use Rattle.places.specs.Bounds.{slack}
 use Rattle.layers.specs.Cells.{natOf}
 use Rattle.layers.specs.Inputs.{Inputs, inputsOf, jobFault}
-use Rattle.layers.proofs.Accepted.{Accepted, accepted}
+use Rattle.layers.proofs.Accepted.{Accepted, accepted, destination}
 use Rattle.compose.proofs.Outcomes.{refused, unfit, composed}
-use Rattle.compose.proofs.Placed.{plane, destination}
+use Rattle.compose.proofs.Placed.{plane}
 use Rattle.compose.proofs.single.compose.Statement.{statement}
 use Rattle.compose.proofs.single.compose.Tie as tie
 
