@@ -8,6 +8,7 @@ mod mapped;
 mod run;
 mod status;
 
+use anyhow::Result;
 use clap::{Parser, Subcommand};
 use std::process::ExitCode;
 
@@ -34,14 +35,19 @@ enum Action {
     Export(export::Export),
 }
 
-fn main() -> ExitCode {
-    let result = match Command::parse().action {
+/// The environment is looked at before anything else, since reading a picture computes too.
+fn act(action: Action) -> Result<()> {
+    tray::environment()?;
+    match action {
         Action::Make(make) => make.make(),
         Action::Run(run) => run.run(),
         Action::Status(status) => status.print(),
         Action::Export(export) => export.write(),
-    };
-    match result {
+    }
+}
+
+fn main() -> ExitCode {
+    match act(Command::parse().action) {
         Ok(()) => ExitCode::SUCCESS,
         Err(error) => {
             eprintln!("tray: {error:#}");

@@ -1,6 +1,6 @@
 //! Why a call is refused.
 
-use std::error::Error;
+use crate::Environment;
 use std::fmt;
 
 /// The refusals by their numbers.
@@ -102,7 +102,7 @@ impl fmt::Display for Fault {
     }
 }
 
-impl Error for Fault {}
+impl std::error::Error for Fault {}
 
 /// A refused job call: the fault, and the layer that has it, counted from 0 (0 where none is concerned).
 #[derive(Clone, Copy, Debug, PartialEq, Eq, Hash)]
@@ -121,4 +121,41 @@ impl fmt::Display for Refusal {
     }
 }
 
-impl Error for Refusal {}
+impl std::error::Error for Refusal {}
+
+/// Why a call that computes has written nothing: the library refused it, with R as its answer, or it was not called because
+/// of the thread's floating-point environment.
+#[derive(Clone, Copy, Debug, PartialEq, Eq, Hash)]
+pub enum Error<R> {
+    Refused(R),
+    Environment(Environment),
+}
+
+impl<R: fmt::Display> fmt::Display for Error<R> {
+    fn fmt(&self, f: &mut fmt::Formatter) -> fmt::Result {
+        match self {
+            Error::Refused(refusal) => refusal.fmt(f),
+            Error::Environment(environment) => environment.fmt(f),
+        }
+    }
+}
+
+impl<R: fmt::Debug + fmt::Display> std::error::Error for Error<R> {}
+
+impl From<Fault> for Error<Fault> {
+    fn from(fault: Fault) -> Self {
+        Error::Refused(fault)
+    }
+}
+
+impl From<Refusal> for Error<Refusal> {
+    fn from(refusal: Refusal) -> Self {
+        Error::Refused(refusal)
+    }
+}
+
+impl<R> From<Environment> for Error<R> {
+    fn from(environment: Environment) -> Self {
+        Error::Environment(environment)
+    }
+}

@@ -1,7 +1,7 @@
 //! The resumable job.
 
 use crate::raw;
-use crate::{Fault, Inputs, Refusal};
+use crate::{environment, Error, Fault, Inputs, Refusal};
 
 /// What a job's calls write: two work buffers of 4 × width × height words each, and the mark, a list of one number that
 /// begins at 0. The buffers may begin with any content.
@@ -20,11 +20,12 @@ pub struct Progress {
 }
 
 /// Goes on from the mark with up to `allowance` stores, five a pixel. `u64::MAX` runs to the end.
-pub fn job(inputs: &Inputs, allowance: u64, memory: Memory) -> Result<Progress, Refusal> {
+pub fn job(inputs: &Inputs, allowance: u64, memory: Memory) -> Result<Progress, Error<Refusal>> {
+    environment()?;
     let (mut layer, mut stores, mut finished) = (0, 0, 0);
     match Fault::check(raw::job(inputs, allowance, memory, &mut layer, &mut stores, &mut finished)) {
         Ok(()) => Ok(Progress { stores, finished: finished != 0 }),
-        Err(fault) => Err(Refusal { fault, layer }),
+        Err(fault) => Err(Refusal { fault, layer }.into()),
     }
 }
 

@@ -1,7 +1,7 @@
 //! The crate on the library that it links: document 01's trial values, each fault, and a job cut at every store.
 
 use tray::{compose, from_name, job, narrow, narrow_bytes, phase, total};
-use tray::{Fault, Flags, Gravity, Inputs, Layer, Memory, Progress, Refusal, Source, Stack};
+use tray::{Error, Fault, Flags, Gravity, Inputs, Layer, Memory, Progress, Refusal, Source, Stack};
 
 fn words(values: &[f32]) -> Vec<u32> {
     values.iter().map(|v| v.to_bits()).collect()
@@ -85,7 +85,7 @@ fn narrowing() {
     assert_eq!(gray, [0x7fc0_0000]);
     for (wanted, length) in [(2, 2), (3, 4), (-1, 1)] {
         let mut out = vec![9; length];
-        assert_eq!(narrow(wanted, &pixels, &mut out), Err(Fault::Narrow));
+        assert_eq!(narrow(wanted, &pixels, &mut out), Err(Error::Refused(Fault::Narrow)));
         assert_eq!(out, vec![9; length], "a refused call wrote");
     }
 }
@@ -118,7 +118,7 @@ impl Job {
         }
     }
 
-    fn call(&mut self, allowance: u64) -> Result<Progress, Refusal> {
+    fn call(&mut self, allowance: u64) -> Result<Progress, Error<Refusal>> {
         let stack = Stack::new(&self.layers);
         let inputs = inputs(self.width, &self.dst, &stack, &self.samples);
         let [work0, work1] = &mut self.work;
@@ -128,7 +128,7 @@ impl Job {
     /// A call that must be refused, and write nothing.
     fn refused(mut self, fault: Fault, layer: u64) {
         let before = (self.work.clone(), self.mark.clone());
-        assert_eq!(self.call(100), Err(Refusal { fault, layer }));
+        assert_eq!(self.call(100), Err(Error::Refused(Refusal { fault, layer })));
         assert_eq!((self.work, self.mark), before, "a refused call wrote");
     }
 }
@@ -184,7 +184,7 @@ fn every_fault() {
     table[4] = 64;
     let pixel = [0; 4];
     let broken = Inputs { table: &table, ..inputs(1, &pixel, &stack, &pixel) };
-    assert_eq!(compose(&broken, &mut [0; 4]), Err(Fault::Flags));
+    assert_eq!(compose(&broken, &mut [0; 4]), Err(Error::Refused(Fault::Flags)));
 }
 
 #[test]
