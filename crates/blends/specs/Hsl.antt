@@ -1,4 +1,4 @@
--- The two colour conversions of composite.rs, `rgb_to_hsl` and `hsl_to_rgb` (lines 1090 to 1135). A colour triple is one value:
+-- The two colour conversions, `rgb_to_hsl` (composite.rs 1090 to 1111) and `hsl_to_rgb` (composite.rs 1113 to 1136). A colour triple is one value:
 -- hue, saturation and lightness, or red, green and blue. Definitions only.
 use mathlib.Core.Bool.{cond}
 use lib.Ieee.{Float, lt, le, eq}
@@ -14,11 +14,11 @@ hslOf h s l = record { h = h; s = s; l = l }
 abbrev pub rgbOf : Float → Float → Float → Rgb
 rgbOf r g b = record { r = r; g = g; b = b }
 
--- lines 1098 to 1102
+-- `s` (composite.rs 1098 to 1102)
 unfoldable pub saturationOf : Float → Float → Float → Float → Float
 saturationOf max min l d = cond (lt half l) (d ⊘ (f2 ⊖ max ⊖ min)) (d ⊘ (max ⊕ min))
 
--- lines 1103 to 1109: 6 and 4 as literals
+-- `h` (composite.rs 1103 to 1109): 6 and 4 as literals
 unfoldable pub hueOf : Float → Float → Float → Float → Float → Float
 hueOf r g b max d =
     cond (eq max r) (remEuclidOf ((g ⊖ b) ⊘ d) (lit 0x40c0_0000))
@@ -35,11 +35,11 @@ hslBy r g b max min =
 abbrev pub rgbToHslOf : Float → Float → Float → Hsl
 rgbToHslOf r g b = hslBy r g b (largerOf (largerOf r g) b) (smallerOf (smallerOf r g) b)
 
--- lines 1117 to 1121
+-- `q` (composite.rs 1117 to 1121)
 unfoldable pub upperOf : Float → Float → Float
 upperOf s l = cond (lt l half) (l ⊗ (f1 ⊕ s)) (l ⊕ s ⊖ l ⊗ s)
 
--- the closure `f`, lines 1123 to 1133, after its remainder
+-- the closure `f` (composite.rs 1123 to 1134), after its remainder
 unfoldable pub rampOf : Float → Float → Float → Float
 rampOf p q t =
     cond (lt t (f1 ⊘ lit 0x40c0_0000)) (p ⊕ (q ⊖ p) ⊗ lit 0x40c0_0000 ⊗ t)

@@ -1,4 +1,4 @@
--- A layer's arguments as its operator reads them: `arg` of composite.rs (lines 518 to 524), the raw reading of Mathematics (line 1025), and what each
+-- A layer's arguments as its operator reads them: `arg` (composite.rs 521 to 527), the raw reading of `Mathematics` (composite.rs 1025 to 1028), and what each
 -- operator asks for, with its default. Document 01: "`arg` puts its default for a missing or non-finite value. Mathematics reads raw arguments, a
 -- missing one as 0." Definitions only.
 use mathlib.Core.Bool.{cond, _&&_}
@@ -45,32 +45,32 @@ hundred = lit 0x42c8_0000
 
 -- ---- what an operator asks for
 
--- Blend, lines 708 and 709: 50 %, and what a leaves of 100 %
+-- `Blend` (composite.rs 707 to 716): 50 %, and what a leaves of 100 %
 abbrev pub blendParams : Args → Params
 blendParams args =
     let a = argOr args 0 (lit 0x4248_0000) ⊘ hundred in pair a (argOr args 1 (hundred ⊖ a ⊗ hundred) ⊘ hundred)
 
--- Dissolve, lines 718 and 719: 50 % and 100 %
+-- `Dissolve` (composite.rs 717 to 724): 50 % and 100 %
 abbrev pub dissolveParams : Args → Params
 dissolveParams args = pair (argOr args 0 (lit 0x4248_0000) ⊘ hundred) (argOr args 1 hundred ⊘ hundred)
 
--- ChangeMask, line 779: the fuzz, 0
+-- `ChangeMask` (composite.rs 778 to 782): the fuzz, 0
 abbrev pub maskParams : Args → Params
 maskParams args = pair (argOr args 0 f0) f0
 
--- Threshold, lines 788 and 789: 0.05 and 1
+-- `Threshold` (composite.rs 787 to 798): 0.05 and 1
 abbrev pub thresholdParams : Args → Params
 thresholdParams args = pair (argOr args 0 (lit 0x3d4c_cccd)) (argOr args 1 f1)
 
--- Modulate, lines 803 and 804: 100 % twice
+-- `Modulate` (composite.rs 799 to 811): 100 % twice
 abbrev pub modulateParams : Args → Params
 modulateParams args = pair (argOr args 0 hundred ⊘ hundred) (argOr args 1 hundred ⊘ hundred)
 
--- the maps, lines 1148 to 1150: X, 20, and Y, which is X unless it is given
+-- the maps, `MapContext::new` (composite.rs 1147 to 1152): X, 20, and Y, which is X unless it is given
 abbrev pub mapParams : Args → Params
 mapParams args = let x = argOr args 0 (lit 0x41a0_0000) in pair x (argOr args 1 x)
 
--- Mathematics, lines 1025 and 1026
+-- `Mathematics` (composite.rs 1025 to 1028)
 abbrev pub rawParams : Args → Params
 rawParams args = record { a = rawArg args 0; b = rawArg args 1; c = rawArg args 2; d = rawArg args 3 }
 

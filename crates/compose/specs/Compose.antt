@@ -1,4 +1,4 @@
--- `compose_float` of composite.rs (lines 594 to 645) restated over words, pixel by pixel: one pixel of the result from the layer, a reader of the picture
+-- `compose_float` (composite.rs 594 to 647) restated over words, pixel by pixel: one pixel of the result from the layer, a reader of the picture
 -- beneath and the pixel's place. Document 01: "Where a source lands", "Float steps" on what is stored. Definitions only.
 use mathlib.Core.Bool.{Bool, true, cond}
 use mathlib.Core.List.{List}
@@ -26,7 +26,7 @@ use Rattle.pixels.specs.Pixel.{pixelOf, clear}
 use Rattle.compose.specs.Arguments.{paramsOf}
 use Rattle.compose.specs.declared.Plan.{Plan}
 
--- ---- before the rows, lines 597 to 603
+-- ---- before the rows: from `dw` (composite.rs 597) to `tile` (composite.rs 603)
 
 -- the source's picture, a part of the source samples
 abbrev pub sourceOf : List ℕ → Source → List ℕ
@@ -50,7 +50,7 @@ planOf l dw dh = record {
   dh = dh;
 }
 
--- ---- one pixel, lines 608 to 642
+-- ---- one pixel of a `row` (composite.rs 608 to 644)
 
 -- the pixel of the source on destination pixel j, row by row
 abbrev pub spotOn : Plan → ℕ → Spot
@@ -70,7 +70,8 @@ sourcePixel p source Off = clear
 abbrev pub floatOf : ℕ → Float
 floatOf n = ofInt binary32 (pos n)
 
--- The maps, lines 1155 to 1168: where Displace and Distort read the destination, in one coordinate. v is the source's red for x, its green for y; by is X or Y.
+-- The maps: where `Displace` (composite.rs 1156 to 1162) and `Distort` (composite.rs 1163 to 1169) read the destination, in one coordinate. v is the
+-- source's red for x, its green for y; by is X or Y.
 unfoldable pub mapCoordinate : Bool → ℕ → Float → Float → Float
 mapCoordinate displace at v by = cond displace (floatOf at ⊕ (v ⊖ half) ⊗ by) (v ⊗ by)
 
@@ -80,7 +81,7 @@ mapped p beneath s j =
     (mapCoordinate (p .displace) (j % p .dw) (s .r) (p .params .a))
     (mapCoordinate (p .displace) (j / p .dw) (s .g) (p .params .b))
 
--- `r`, lines 624 to 628: of the source's pixel s and the destination's own pixel d
+-- `r` (composite.rs 627 to 631): of the source's pixel s and the destination's own pixel d
 unfoldable pub resultOf : Plan → (ℕ → Rgba) → Rgba → Rgba → ℕ → Rgba
 resultOf p beneath s d j = cond (p .map) (mapped p beneath s j) (pixelOf (p .op) (p .params) s d)
 

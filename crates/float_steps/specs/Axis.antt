@@ -1,4 +1,4 @@
--- One coordinate of bilinear sampling: lines 247 to 262 of deep.rs, `bilinear_into`, which do the same for x and for y.
+-- One coordinate of `bilinear_into` (deep.rs 244 to 274): from `x` (deep.rs 247) to `fy` (deep.rs 262) it does the same for x and for y.
 use Prim.Native.Nat.{ℕ, _+_, _-_, min}
 use mathlib.Core.Bool.{cond}
 use lib.IntN.{pos}

@@ -1,5 +1,5 @@
 -- Document 01, "Float steps": `rem_euclid` by m is the remainder %, plus m if it is below zero. The remainder % itself is `rem` of `lib.Ieee`.
--- `wrap` restates lines 895 to 898 of composite.rs.
+-- `wrapOf` is `wrap` (composite.rs 895 to 898).
 use mathlib.Core.Bool.{cond, _&&_}
 use lib.Ieee.{Float, binary32, rem, lt, le, eq}
 use Rattle.float_steps.specs.Notation.{_⊕_, f0, f1}

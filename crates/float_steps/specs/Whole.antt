@@ -1,5 +1,5 @@
 -- Document 01, "Float steps": floor and the byte step `round` (halves away from zero) act on the exact value, which is m * up e / down e.
--- `byteOf` restates lines 863 to 867 of deep.rs, `narrow_u8` of one sample.
+-- `byteOf` is `narrow_u8` (deep.rs 857 to 874) of one sample.
 use Prim.Native.Nat.{ℕ, _+_, _*_, _/_, min}
 use mathlib.Core.Bool.{cond}
 use lib.Ieee.{Float, nan, inf, fin, up, down}

@@ -1,4 +1,4 @@
-// The names of the operators: `from_name` (composite.rs, 351 to 376) on bytes of any length.
+// The names of the operators: `from_name` (composite.rs 351 to 376) on bytes of any length.
 // The contracts cite specs/Names, the readable list of the names, and specs/Packed, how the code keeps them.
 ghost use mathlib.Core.Path.{_≡_};
 ghost use Prim.Native.Nat.{_≤_, _<_};

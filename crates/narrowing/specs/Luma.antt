@@ -1,4 +1,4 @@
--- `luma` of deep.rs (lines 340 to 346) on three channels, the gray of a pixel. Its weights stand here alone. Definitions only.
+-- `luma` (deep.rs 340 to 346) on three channels, the gray of a pixel. Its weights stand here alone. Definitions only.
 use lib.Ieee.{Float}
 use Rattle.float_steps.specs.Notation.{_⊕_, _⊗_, lit}
 use Rattle.pictures.specs.declared.Rgba.{Rgba}

@@ -1,4 +1,4 @@
--- Narrowing a picture of four channels: `to_channels` of deep.rs (lines 374 to 399) on words, `narrow_u8` (lines 857 to 876) after it, and
+-- Narrowing a picture of four channels: `to_channels` (deep.rs 373 to 397) on words, `narrow_u8` (deep.rs 857 to 874) after it, and
 -- document 01's refusal 11, NARROW. Document 01: gray output uses `luma`, and a gray that comes out NaN is stored as 7FC00000; a channel narrowed
 -- without `luma` is copied with all its bits; bytes as `narrow_u8`; a refusal writes nothing. Definitions only.
 use mathlib.Core.Bool.{cond, not, _||_}

@@ -1,4 +1,5 @@
--- The operators: their numbers (`CompositeOp::ALL`, composite.rs 198 to 269), their conventions (`convention`, 916 to 943) and which are maps (`is_map`, 380 to 382).
+-- The operators: their numbers, `CompositeOp::ALL` (composite.rs 198 to 269), their conventions, `convention` (composite.rs 916 to 943), and which are
+-- maps, `is_map` (composite.rs 380 to 382).
 -- Document 01: "Numbers follow `CompositeOp::ALL`", and "`convention` decides division by the union alpha, even where comments group otherwise".
 -- An operator has one line, in `line`; the list of the operators, their count and their numbers are read from it. There is no test for equal operators,
 -- so that a list alone would give an operator no number: each line names the operator after it.

@@ -1,4 +1,4 @@
-// The 70 operators of `CompositeOp` (composite.rs, 46 to 383): their numbers, and what a number names.
+// The 70 operators of `CompositeOp` (composite.rs 46 to 194): their numbers, and what a number names.
 // The contracts cite specs/Operators and specs/Numbers.
 ghost use mathlib.Core.Path.{_≡_};
 ghost use Rattle.operators.specs.Operators.{numberOf, opAt, same, isMap};
@@ -80,7 +80,7 @@ pub enum CompositeOp {
     Modulate,
 }
 
-// How an operator combines its blend with the alphas (composite.rs, 909 to 914); specs/Operators says which does how.
+// How an operator combines its blend with the alphas, `Convention` (composite.rs 909 to 914); specs/Operators says which does how.
 pub enum Convention {
     Premult,
     Divided,

@@ -1,4 +1,4 @@
--- `bilinear_into` of deep.rs (lines 244 to 276): a picture of w by h pixels, neither side 0, read at (x, y). Three parts: where, which the two axes
+-- `bilinear_into` (deep.rs 244 to 274): a picture of w by h pixels, neither side 0, read at (x, y). Three parts: where, which the two axes
 -- say; the four neighbours, p00, p10, p01 and p11; and their mixture. Definitions only.
 use Prim.Native.Nat.{ℕ, _+_, _*_, _≤_, _<_}
 use mathlib.Core.Path.{_≡_}

@@ -1,4 +1,4 @@
--- One pixel of a picture: `to_rgba` of deep.rs (lines 350 to 370), on words. Document 01: one and three channels widen as `to_rgba` does, alpha 1;
+-- One pixel of a picture: `to_rgba` (deep.rs 350 to 369), on words. Document 01: one and three channels widen as `to_rgba` does, alpha 1;
 -- a channel that is widened is copied with all its bits. Definitions only.
 use Prim.Native.Nat.{ℕ, _+_, _*_}
 use mathlib.Core.Bool.{cond}

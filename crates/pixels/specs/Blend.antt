@@ -1,4 +1,4 @@
--- `blend_inner` of composite.rs (lines 958 to 1028): what a mathematical operator makes of one colour channel of the source, s, and of the
+-- `blend_inner` (composite.rs 957 to 1031): what a mathematical operator makes of one colour channel of the source, s, and of the
 -- destination, d. One line an operator, one rounding an operation, in the Rust's order. Definitions only.
 use lib.Ieee.{Float}
 use Rattle.operators.specs.declared.CompositeOp.{CompositeOp}

@@ -1,4 +1,4 @@
--- One channel of a result: the mathematical operators' four conventions (composite.rs lines 824 to 850, with `over_alpha`), and the steps
+-- One channel of a result: the mathematical operators' four conventions, the arm `op` (composite.rs 824 to 850), and the steps
 -- that other operators share by channel. s and d are one colour channel of the source and the destination, sa and da their alphas.
 -- Every fact about all channels is a fact about these. Definitions only.
 use mathlib.Core.Bool.{Bool, cond}
@@ -9,7 +9,7 @@ use Rattle.float_steps.specs.Notation.{_⊕_, _⊖_, _⊗_, _⊘_, lit, f0, f1}
 use Rattle.float_steps.specs.Order.{smallerOf, unitOf}
 use Rattle.float_steps.specs.Sign.{absOf}
 
--- `over_alpha`: the union alpha
+-- `over_alpha` (composite.rs 874 to 876): the union alpha
 abbrev pub overAlphaOf : Float → Float → Float
 overAlphaOf sa da = sa ⊕ da ⊖ sa ⊗ da
 
@@ -43,28 +43,30 @@ channelOf PremultOnly B s d sa da = premultOnlyBy (B (s ⊗ sa) (d ⊗ da))
 
 -- ---- by channel, of the other operators
 
--- Over, line 889; a is the alpha that it divides by
+-- `over` (composite.rs 879 to 892); a is the alpha that it divides by
 abbrev pub overChannel : Float → Float → Float → Float → Float → Float
 overChannel a s d sa da = (s ⊗ sa ⊕ d ⊗ da ⊗ (f1 ⊖ sa)) ⊘ a
 
--- Atop, line 678; DstAtop, line 686, is the same with the two pictures exchanged
+-- `Atop` (composite.rs 675 to 682); `DstAtop` (composite.rs 683 to 690) is the same with the two pictures exchanged
 abbrev pub atopChannel : Float → Float → Float → Float → Float
 atopChannel s d sa da = s ⊗ sa ⊗ da ⊕ d ⊗ da ⊗ (f1 ⊖ sa)
 
+-- `Xor` (composite.rs 691 to 698)
 abbrev pub xorChannel : Float → Float → Float → Float → Float
 xorChannel s d sa da = s ⊗ sa ⊗ (f1 ⊖ da) ⊕ d ⊗ da ⊗ (f1 ⊖ sa)
 
+-- `Plus` (composite.rs 699 to 706)
 abbrev pub plusChannel : Float → Float → Float → Float → Float
 plusChannel s d sa da = smallerOf (s ⊗ sa ⊕ d ⊗ da) f1
 
--- the colour operators, line 757: v is a channel of the new colour
+-- the colour operators, `Hue` (composite.rs 743 to 765): v is a channel of the new colour
 abbrev pub colouredChannel : Float → Float → Float → Float → Float
 colouredChannel v d sa da = overUnionOf (v ⊗ sa ⊕ d ⊗ da ⊗ (f1 ⊖ sa)) (overAlphaOf sa da)
 
--- ChangeMask, line 780: within the fuzz and 1e-6
+-- `ChangeMask` (composite.rs 778 to 782): within the fuzz and 1e-6
 abbrev pub withinFuzz : Float → Float → Float → Bool
 withinFuzz fuzz s d = le (absOf (s ⊖ d)) (fuzz ⊕ lit 0x3586_37bd)
 
--- Threshold, lines 792 to 795
+-- `Threshold` (composite.rs 787 to 798)
 unfoldable pub thresholdChannel : Float → Float → Float → Float → Float
 thresholdChannel threshold amount s d = cond (le threshold (absOf (s ⊖ d))) (d ⊕ (s ⊖ d) ⊗ amount) d

@@ -1,4 +1,4 @@
--- `pixel` of composite.rs (lines 647 to 855): one pixel of the source, s, on one of the destination, d, both straight RGBA.
+-- `pixel` (composite.rs 650 to 852): one pixel of the source, s, on one of the destination, d, both straight RGBA.
 -- One line an operator, with the Rust's names. Definitions only.
 use mathlib.Core.Bool.{Bool, cond, _&&_}
 use lib.Ieee.{Float, lt, le}
@@ -26,9 +26,9 @@ rgbaOf r g b a = record { r = r; g = g; b = b; a = a }
 abbrev pub onColours : (Float → Float → Float) → Rgba → Rgba → Float → Rgba
 onColours f s d a = rgbaOf (f (s .r) (d .r)) (f (s .g) (d .g)) (f (s .b) (d .b)) a
 
--- ---- the helpers, lines 857 to 906
+-- ---- the helpers
 
--- `premult`: a colour scaled by its weight, which is its alpha too
+-- `premult` (composite.rs 858 to 860): a colour scaled by its weight, which is its alpha too
 abbrev pub premultOf : Rgba → Float → Rgba
 premultOf c w = rgbaOf (c .r ⊗ w) (c .g ⊗ w) (c .b ⊗ w) w
 
@@ -38,37 +38,40 @@ withAlpha c a = rgbaOf (c .r) (c .g) (c .b) a
 abbrev pub clear : Rgba
 clear = rgbaOf f0 f0 f0 f0
 
+-- `straight_or_clear` (composite.rs 864 to 870)
 unfoldable pub straightOrClearOf : Rgba → Float → Rgba
 straightOrClearOf c a = cond (le a f0) clear (withAlpha c a)
 
--- `over`, with its alpha a
+-- `over` (composite.rs 879 to 892), with its alpha a
 unfoldable pub overBy : Float → Rgba → Rgba → Rgba
 overBy a s d = cond (le a f0) (withAlpha d f0) (onColours (λ x y. overChannel a x y (s .a) (d .a)) s d a)
 
 abbrev pub overOf : Rgba → Rgba → Rgba
 overOf s d = overBy (s .a ⊕ d .a ⊗ (f1 ⊖ s .a)) s d
 
+-- `intensity` (composite.rs 902 to 904)
 abbrev pub intensityOf : Rgba → Float
 intensityOf p = lit 0x3e59_c27f ⊗ p .r ⊕ lit 0x3f37_1498 ⊗ p .g ⊕ lit 0x3d93_d641 ⊗ p .b
 
 -- ---- the arms that take more than a line
 
--- DstOver, lines 656 to 663: o is `over` with the two pictures exchanged
+-- `DstOver` (composite.rs 658 to 665): o is `over` with the two pictures exchanged
 unfoldable pub keptWhereClear : Rgba → Rgba → Rgba
 keptWhereClear o d = cond (le (o .a) f0) (withAlpha d f0) o
 
 abbrev pub grayOf : Float → Float → Rgba
 grayOf v a = rgbaOf v v v a
 
--- Rmse, lines 726 to 728
+-- `Rmse` (composite.rs 725 to 728). Its `sum` begins at a zero, which is left out here: a square is never -0, so that a zero of either sign plus the first
+-- square is that square, NaN included.
 abbrev pub rmseOf : Rgba → Rgba → Float
 rmseOf s d = sqrtOf ((squareOf (s .r ⊖ d .r) ⊕ squareOf (s .g ⊖ d .g) ⊕ squareOf (s .b ⊖ d .b)) ⊘ lit 0x4040_0000)
 
--- DarkenIntensity and LightenIntensity, lines 729 to 742: s where x is darker than y, else d
+-- `DarkenIntensity` (composite.rs 729 to 735) and `LightenIntensity` (composite.rs 736 to 742): s where x is darker than y, else d
 unfoldable pub whereDarker : Rgba → Rgba → Rgba → Rgba → Rgba
 whereDarker x y s d = cond (lt (intensityOf x ⊗ x .a) (intensityOf y ⊗ y .a)) s d
 
--- Hue, Saturate, Luminize and Colorize, lines 743 to 763
+-- `Hue` (composite.rs 743 to 765), Saturate, Luminize and Colorize
 abbrev pub hslAt : Rgba → Hsl
 hslAt p = rgbToHslOf (p .r) (p .g) (p .b)
 
@@ -80,7 +83,7 @@ colouredBy c s d =
 abbrev pub colouredOf : Hsl → Rgba → Rgba → Rgba
 colouredOf c s d = colouredBy (hslToRgbOf c) s d
 
--- ChangeMask, lines 778 to 782: all four channels are compared
+-- `ChangeMask` (composite.rs 778 to 782): all four channels are compared
 abbrev pub matches : Float → Rgba → Rgba → Bool
 matches fuzz s d =
     withinFuzz fuzz (s .r) (d .r) && (withinFuzz fuzz (s .g) (d .g) && (withinFuzz fuzz (s .b) (d .b) && withinFuzz fuzz (s .a) (d .a)))
@@ -88,7 +91,7 @@ matches fuzz s d =
 unfoldable pub changeMaskOf : Float → Rgba → Rgba → Rgba
 changeMaskOf fuzz s d = cond (matches fuzz s d) (withAlpha d f0) d
 
--- Modulate, lines 799 to 812: i is the source's intensity less a half, c the destination's hue, saturation and lightness
+-- `Modulate` (composite.rs 799 to 811): i is the source's intensity less a half, c the destination's hue, saturation and lightness
 abbrev pub scaledOf : Float → Float → Float → Float
 scaledOf v i by = unitOf (v ⊗ (f1 ⊕ f2 ⊗ i ⊗ by))
 
@@ -98,7 +101,7 @@ modulatedBy i c p = hslToRgbOf (hslOf (c .h) (scaledOf (c .s) i (p .b)) (scaledO
 abbrev pub withColour : Rgb → Float → Rgba
 withColour c a = rgbaOf (c .r) (c .g) (c .b) a
 
--- ---- the mathematical operators, lines 824 to 853
+-- ---- the mathematical operators, the arm `op` (composite.rs 824 to 850)
 
 -- where an operator takes no arguments
 abbrev pub unused : Params

@@ -1,4 +1,5 @@
-// The operators on hue, saturation, lightness and intensity, and those that copy or compare single channels (composite.rs lines 725 to 812).
+// The operators on hue, saturation, lightness and intensity, and those that copy or compare single channels:
+// from `Rmse` (composite.rs 725) to `Modulate` (composite.rs 799 to 811).
 ghost use mathlib.Core.Path.{_≡_};
 ghost use Rattle.blends.specs.Hsl.{hslOf};
 ghost use Rattle.operators.specs.declared.CompositeOp.the-variants as O;

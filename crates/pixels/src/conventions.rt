@@ -1,4 +1,4 @@
-// The four conventions of the mathematical operators, for one channel (composite.rs lines 824 to 850): b is the blended channel.
+// The four conventions of the mathematical operators, for one channel, the arm `op` (composite.rs 824 to 850): b is the blended channel.
 ghost use mathlib.Core.Path.{_≡_};
 ghost use Rattle.pixels.specs.Channel.{overAlphaOf, premultBy, overUnionOf, dividedBy, onPremultBy, premultOnlyBy};
 use float_steps::order::unit;

@@ -1,6 +1,6 @@
-// The mathematical operators (composite.rs lines 824 to 853 and `blend_inner`): the operator chooses the blend of a channel, its convention how
-// the blend is combined with the alphas. An operator that is not mathematical has the Rust's `_ => s`. `paint` names operator and convention at each
-// call, so that nothing of the two matches is left in compiled code.
+// The mathematical operators, the arm `op` (composite.rs 824 to 850) and `blend_inner` (composite.rs 957 to 1031): the operator chooses the blend of a
+// channel, its convention how the blend is combined with the alphas. An operator that is not mathematical has the Rust's `_ => s`. `paint` names operator
+// and convention at each call, so that nothing of the two matches is left in compiled code.
 ghost use mathlib.Core.Path.{_≡_};
 ghost use Rattle.operators.specs.declared.Convention.the-variants as C;
 ghost use Rattle.float_steps.specs.Remainder.{wrapOf};
@@ -140,7 +140,8 @@ pub fn mathematical(by: By, op: O, p: Params, s: Rgba, d: Rgba) -> Rgba
     beside_alpha(by, op, p, s, d, over_alpha(s.a, d.a))
 }
 
-// ModulusAdd and ModulusSubtract: the alpha a is wrapped too.
+// ModulusAdd and ModulusSubtract: the alpha a is wrapped, and the colours are not. Document 01: "they wrap only alpha and take the source's colour
+// times its alpha."
 pub fn modulus(op: O, p: Params, s: Rgba, d: Rgba, a: f32) -> Rgba
     ensures { λ r. ⌜ r ≡ underConvention C.PremultOnly op p s d (wrapOf a) ⌝ }
 {

@@ -1,4 +1,5 @@
-// Porter and Duff's operators, and the two weighted ones that rest on them (composite.rs lines 651 to 724 and the helpers from 857 on).
+// Porter and Duff's operators, and the two weighted ones that rest on them: from `Clear` (composite.rs 654) to `Dissolve` (composite.rs 717 to 724), with
+// `premult` (composite.rs 858 to 860), `straight_or_clear` (composite.rs 864 to 870) and `over` (composite.rs 879 to 892).
 ghost use mathlib.Core.Path.{_≡_};
 ghost use Rattle.operators.specs.declared.CompositeOp.the-variants as O;
 ghost use Rattle.pixels.specs.Channel.{overChannel, atopChannel, xorChannel, plusChannel};
@@ -30,7 +31,7 @@ fn with_alpha(c: Rgba, a: f32) -> Rgba
     }
 }
 
-// A straight colour with alpha a, cleared to black where a is not above 0.
+// A straight colour with alpha a, cleared to transparent black where a <= 0: not where it is NaN.
 fn straight_or_clear(c: Rgba, a: f32) -> Rgba
     ensures { λ r. ⌜ r ≡ straightOrClearOf c a ⌝ }
 {

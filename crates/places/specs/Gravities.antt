@@ -1,5 +1,5 @@
--- The gravities by their numbers (document 01: "Gravity: 0 none, 1 to 9 in the order of `Gravity`"; gravity_translate.rs
--- 23-33), and what each says along the two axes (composite.rs 536-545; `None`, 533, is the corner (0, 0)).
+-- The gravities by their numbers (document 01: "Gravity: 0 none, 1 to 9 in the order of `Gravity`"), those of `Gravity` (gravity_translate.rs 23 to 33),
+-- and what each says along the two axes, `x` (composite.rs 536 to 540) and `y` (composite.rs 541 to 545); `None` (composite.rs 533) is the corner (0, 0).
 use mathlib.Core.List.{List, [], _∷_}
 use Prim.Native.Nat.{ℕ}
 use lib.ListN.{getD}

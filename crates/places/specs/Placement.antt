@@ -1,4 +1,4 @@
--- The source's top left corner on the destination: composite.rs's `placement` (531-550), and document 01, "Where a source
+-- The source's top left corner on the destination: `placement` (composite.rs 531 to 550), and document 01, "Where a source
 -- lands": (destination side − source side) / 2 cuts towards zero.
 use Prim.Native.Nat.{ℕ}
 use lib.IntN.{ℤ, pos, _+ℤ_, _-ℤ_}

@@ -1,4 +1,5 @@
--- Which pixel of the source lies on a destination pixel: composite.rs 603 and 610-615, over the integers.
+-- Which pixel of the source lies on a destination pixel, over the integers: `tile` (composite.rs 603), and from `sx` (composite.rs 610) to
+-- `inside` (composite.rs 615).
 use mathlib.Core.Bool.{Bool, cond, _&&_}
 use Prim.Native.Nat.{ℕ, _+_, _-_, _*_, _%_}
 use lib.IntN.{ℤ, pos, negsuc, _-ℤ_}
