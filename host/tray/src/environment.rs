@@ -1,7 +1,8 @@
 //! The floating-point environment of the calling thread. The library's samples are those of binary32 with subnormal
-//! numbers, each operation rounded to the nearest value, ties to even: the environment in which C and Rust programs start. A
-//! thread can leave it (on x86-64 by bits of the register MXCSR, which gcc's -ffast-math sets when a program starts), and
-//! then the same call gives other bits, and a job that such a worker takes up becomes a mixture.
+//! numbers, each operation rounded to the nearest value, ties to even: the environment in which C and Rust programs
+//! start. A thread can leave it (on x86-64 by bits of the register MXCSR, which gcc's -ffast-math sets when a program
+//! starts), and then the same call gives other bits, and a job that such a worker takes up becomes a mixture. Trapped
+//! exceptions are not looked for: a trap ends the process as a kill does, and changes no sample.
 
 use crate::raw;
 use crate::{Inputs, ARGUMENTS, COLUMNS};
@@ -43,7 +44,7 @@ const EVEN_AFTER_HALF: u32 = HALF + 2;
 const TIE: u32 = 0x3300_0000;
 
 /// Sees by a composition of one pixel whether the calling thread computes as the library needs it: [`crate::compose`],
-/// [`crate::narrow`], [`crate::narrow_bytes`] and [`crate::job`] ask this first. The answer is for the calling thread alone.
+/// [`crate::narrow`], [`crate::narrow_bytes`] and [`crate::job`] ask this first. The answer is for the calling thread.
 ///
 /// Red is the sum of the least subnormal number and itself. Green and blue are ties: a half is even, and rounding up leaves
 /// it; the float after it is odd, and rounding down or towards zero stays there.
