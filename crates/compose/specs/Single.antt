@@ -5,6 +5,7 @@ use mathlib.Core.List.{List}
 use Prim.Native.Nat.{ℕ, _*_}
 use lib.Dec.{eqb}
 use lib.ListN.{length}
+use Rattle.faults.specs.Faults.{NONE, WORK}
 use Rattle.layers.specs.Cells.{natOf}
 use Rattle.layers.specs.Inputs.{Inputs, jobFault}
 use Rattle.layers.specs.Layers.{layerAt}
@@ -26,6 +27,6 @@ pictureOf i =
 -- refused under the number of the first fault, with the output as it was; else the picture
 unfoldable pub composeOf : Inputs → List ℕ → Composed
 composeOf i out =
-    cond (eqb (jobFault i .number) 0)
-    (cond (eqb (length out) (4 * (natOf (i .width) * natOf (i .height)))) (answered 0 (pictureOf i)) (answered 9 out))
+    cond (eqb (jobFault i .number) NONE)
+    (cond (eqb (length out) (4 * (natOf (i .width) * natOf (i .height)))) (answered NONE (pictureOf i)) (answered WORK out))
     (answered (jobFault i .number) out)

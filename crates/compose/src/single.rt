@@ -15,6 +15,7 @@ use crate::cell::plan;
 use crate::run::least;
 use crate::run::run;
 use crate::source::source_of;
+use faults::Fault;
 use layers::Layer;
 use layers::cells::natural;
 use layers::check;
@@ -22,9 +23,6 @@ use pictures::flat::widen;
 
 // The pixels that are widened at a time.
 const CHUNK: usize = 64;
-
-// WORK, the number of an output that is too short or too long.
-const REFUSED: u64 = 9;
 
 // Pixels from .. from + count, at the front of out: their own pixels are widened into a buffer first.
 fn chunk(
@@ -91,16 +89,16 @@ pub fn compose(
 {
     let v = check(width, height, channels, dst, 1, table, args, samples);
     let number = v.number;
-    if number != 0 {
+    if number != Fault::NONE {
         return number;
     }
     let dw = natural(width);
     let dh = natural(height);
     let size = 4 * (dw * dh);
     if out.len() != size {
-        return REFUSED;
+        return Fault::WORK;
     }
     let depth = natural(channels);
     whole(Layer::at(table, args, 0), dw, dh, depth, dst, samples, out);
-    0
+    Fault::NONE
 }

@@ -5,6 +5,7 @@ use Prim.Native.Nat.{ℕ, zero, suc, _+_, _-_, _*_, _/_, _%_, min}
 use lib.Dec.{eqb}
 use lib.IntN.{ℤ}
 use lib.ListN.{getD}
+use Rattle.faults.specs.Faults.{NONE}
 use Rattle.layers.specs.Cells.{natOf}
 use Rattle.layers.specs.Inputs.{Inputs}
 use Rattle.layers.specs.Layers.{layerAt}
@@ -87,4 +88,4 @@ acceptedOf i allowance m =
 -- what a call leaves and answers
 unfoldable pub callOf : Inputs → (allowance : ℕ) → Mem → Outcome
 callOf i allowance m =
-    cond (eqb (callFault i m .number) 0) (acceptedOf i allowance m) (record { mem = m; answer = refusal (callFault i m) })
+    cond (eqb (callFault i m .number) NONE) (acceptedOf i allowance m) (record { mem = m; answer = refusal (callFault i m) })

@@ -5,6 +5,7 @@ use mathlib.Core.Bool.{Bool, true, false, cond}
 use mathlib.Core.List.{List, [], _∷_}
 use Prim.Native.Nat.{ℕ, zero, suc, _+_, _*_, _/_, _%_, _<_, min}
 use lib.ListN.{take}
+use Rattle.faults.specs.Faults.{NONE}
 use Rattle.layers.specs.Inputs.{Inputs}
 use Rattle.job.specs.Memory.{Mem, memOf, positionOf, workOf}
 use Rattle.job.specs.Job.{pixelCount, layerCount, endOf, callFault}
@@ -60,7 +61,7 @@ memoryAfter step m (c ∷ cs) = memoryAfter step (step m c .mem) cs
 abbrev pub FairCall : Mem → Call → Type 0
 FairCall m (allowed allowance) = Unit {0}
 FairCall m (cut allowance writes) = Unit {0}
-FairCall m (refused inputs allowance loan uncut) = callFault inputs (lent loan m) .number ≡ 0 → ⊥
+FairCall m (refused inputs allowance loan uncut) = callFault inputs (lent loan m) .number ≡ NONE → ⊥
 
 unfoldable pub Fair : Inputs → Mem → List Call → Type 0
 Fair i m [] = Unit {0}

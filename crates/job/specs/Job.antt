@@ -1,9 +1,10 @@
--- A job by its inputs (document 01): its numbers, the checks of its memory, 9 and 10, which come after those of its inputs, and its answers.
+-- A job by its inputs (document 01): its numbers, the checks of its memory, which come after those of its inputs, and its answers.
 -- Definitions only.
 use mathlib.Core.Bool.{Bool, false, cond}
 use Prim.Native.Nat.{ℕ, _+_, _*_}
 use lib.Dec.{eqb, ltb}
 use lib.ListN.{length}
+use Rattle.faults.specs.Faults.{NONE, WORK, MARK}
 use Rattle.layers.specs.declared.Verdict.{Verdict}
 use Rattle.layers.specs.Cells.{natOf}
 use Rattle.layers.specs.Inputs.{Inputs, verdict, jobFault}
@@ -25,23 +26,23 @@ endOf i = (layerCount i + 1) * pixelCount i
 
 -- ---- the checks
 
--- 9, WORK, and 10, MARK; 0 where there is neither. The checkpoint is one number, its position.
+-- WORK and MARK. The checkpoint is one number, its position.
 unfoldable pub memoryFault : (pixels end : ℕ) → Mem → ℕ
 memoryFault pixels end m =
     cond (eqb (length (m .work0)) (4 * pixels))
     (cond (eqb (length (m .work1)) (4 * pixels))
     (cond (eqb (length (m .checkpoint)) 1)
-    (cond (ltb end (positionOf m)) 10 0)
-    10) 9) 9
+    (cond (ltb end (positionOf m)) MARK NONE)
+    MARK) WORK) WORK
 
 -- the first fault of a call: of its inputs, else of its memory
 unfoldable pub callFault : Inputs → Mem → Verdict
-callFault i m = cond (eqb (jobFault i .number) 0) (verdict (memoryFault (pixelCount i) (endOf i) m) 0) (jobFault i)
+callFault i m = cond (eqb (jobFault i .number) NONE) (verdict (memoryFault (pixelCount i) (endOf i) m) 0) (jobFault i)
 
 -- ---- the answers
 
 abbrev pub acceptance : (stores : ℕ) → (finished : Bool) → Answer
-acceptance stores finished = record { number = 0; layer = 0; stores = stores; finished = finished }
+acceptance stores finished = record { number = NONE; layer = 0; stores = stores; finished = finished }
 
 abbrev pub refusal : Verdict → Answer
 refusal v = record { number = v .number; layer = v .layer; stores = 0; finished = false }

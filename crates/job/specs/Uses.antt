@@ -4,6 +4,7 @@ use mathlib.Core.Path.{_≡_}
 use mathlib.Core.List.{List, [], _∷_}
 use Prim.Native.Nat.{ℕ, _+_, _-_, _*_, _/_, _%_, _<_, _≤_}
 use lib.ListN.{length, getD, take}
+use Rattle.faults.specs.Faults.{NONE}
 use Rattle.layers.specs.Inputs.{Inputs}
 use Rattle.pictures.specs.declared.Words.{Words}
 use Rattle.job.specs.declared.Write.{Write}
@@ -18,7 +19,7 @@ pub record Ahead (n : ℕ) (after : ℕ → Mem) : Type 0 where
   pub inputs : Inputs
   pub found : Mem
   pub made : ℕ
-  pub accepted : callFault inputs found .number ≡ 0
+  pub accepted : callFault inputs found .number ≡ NONE
   pub left : made + n ≤ 5 * (endOf inputs - positionOf found)
   pub each : (c : ℕ) → c ≤ n → after c ≡ callOf inputs (made + c) found .mem
 

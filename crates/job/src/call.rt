@@ -1,6 +1,7 @@
 // A call of a job: its checks, then the writes that it is allowed, then its answer.
 ghost use mathlib.Core.Path.{_≡_};
 ghost use Prim.Native.Nat.{_+_, _*_, _≤_};
+ghost use Rattle.faults.specs.Faults.{NONE};
 ghost use Rattle.layers.specs.Inputs.{inputsOf};
 ghost use Rattle.job.specs.Memory.{memOf};
 ghost use Rattle.job.specs.Job.{memoryFault, callFault};
@@ -9,28 +10,29 @@ ghost use Rattle.job.specs.Steps.{mostPosition};
 use crate::Answer;
 use crate::stretch::writes;
 use compose::run::least;
+use faults::Fault;
 use layers::Verdict;
 use layers::cells::natural;
 use layers::check;
 
-// 9, WORK, or 10, MARK; 0 where there is neither.
+// The fault of the lent memory.
 fn memory_fault(pixels: usize, end: usize, work0: &[u32], work1: &[u32], checkpoint: &[u64]) -> u64
     requires { ⌜ 4 * pixels ≤ mostPosition ⌝ }
     ensures { λ r. ⌜ r ≡ memoryFault pixels end (memOf (now (work0 .entry)) (now (work1 .entry)) (now (checkpoint .entry))) ⌝ }
 {
     if work0.len() != 4 * pixels {
-        return 9;
+        return Fault::WORK;
     }
     if work1.len() != 4 * pixels {
-        return 9;
+        return Fault::WORK;
     }
     if checkpoint.len() != 1 {
-        return 10;
+        return Fault::MARK;
     }
     if end < checkpoint[0] as usize {
-        return 10;
+        return Fault::MARK;
     }
-    0
+    Fault::NONE
 }
 
 // The first fault of a call: of its inputs, then of its memory.
@@ -53,7 +55,7 @@ fn fault(
         ⌝ }
 {
     let v = check(width, height, channels, dst, count, table, args, samples);
-    if v.number != 0 {
+    if v.number != Fault::NONE {
         return v;
     }
     let pixels = natural(width) * natural(height);
@@ -79,7 +81,7 @@ fn accepted(
     work1: &mut [u32],
     checkpoint: &mut [u64],
 ) -> Answer
-    requires { ⌜ callFault (inputsOf width height channels (now dst) count (now table) (now args) (now samples)) (memOf (now work0) (now work1) (now checkpoint)) .number ≡ 0 ⌝ }
+    requires { ⌜ callFault (inputsOf width height channels (now dst) count (now table) (now args) (now samples)) (memOf (now work0) (now work1) (now checkpoint)) .number ≡ NONE ⌝ }
     ensures { λ r. ⌜
         outcome (now (work0 .exit)) (now (work1 .exit)) (now (checkpoint .exit)) r
         ≡ acceptedOf (inputsOf width height channels (now (dst .entry)) count (now (table .entry)) (now (args .entry)) (now (samples .entry))) allowance (memOf (now (work0 .entry)) (now (work1 .entry)) (now (checkpoint .entry)))
@@ -109,7 +111,7 @@ fn accepted(
     );
     let finished = checkpoint[0] as usize == end;
     Answer {
-        number: 0,
+        number: Fault::NONE,
         layer: 0,
         stores: made as u64,
         finished,
@@ -149,7 +151,7 @@ pub fn run(
         work1,
         checkpoint,
     );
-    if v.number != 0 {
+    if v.number != Fault::NONE {
         return Answer {
             number: v.number,
             layer: v.layer,

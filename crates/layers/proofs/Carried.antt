@@ -5,13 +5,14 @@ use native.Mathlib.Omega.{arith}
 use lib.Dec.{eqb, ltb}
 use lib.IntN.{ℤ, pos, negsuc}
 use borrow.Author.Tests.{ltb-true, eqb-false}
-use Rattle.operators.specs.Numbers.{opOf, opFault}
+use Rattle.operators.specs.Numbers.{opOf}
 use Rattle.operators.specs.Operators.{count, numberOf, opAt}
 use Rattle.operators.specs.declared.CompositeOp.{CompositeOp}
 use Rattle.operators.specs.declared.CompositeOp.the-variants.{Interpolate, Blur}
 use Rattle.operators.specs.declared.Numbered.the-variants.{Op, Unknown, Curve}
 use Rattle.operators.proofs.Places.{number-of}
 use Rattle.layers.specs.Cells.{natOf}
+use Rattle.layers.specs.Faults.{opFault}
 use Rattle.layers.specs.GoodLayers.{Carried}
 use Rattle.layers.proofs.Ranges.{both-fail}
 

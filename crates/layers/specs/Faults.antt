@@ -1,37 +1,46 @@
--- The faults of a layer's row, 3 to 8 of document 01's table, in exact integers: the number of the first one, 0 where there
--- is none. A further check of the row is one more line at the end of `layerChecks`.
+-- The faults of a layer's row, OPERATOR to ARGUMENTS of document 01's table, in exact integers: the number of the first one. A further check of the row is
+-- one more line at the end of `layerChecks`.
 use mathlib.Core.Bool.{Bool, cond, _||_}
 use mathlib.Core.List.{List, [], _∷_}
 use Prim.Native.Nat.{ℕ, _+_}
 use lib.Dec.{eqb, ltb}
 use lib.IntN.{ℤ, pos, negℤ}
 use lib.Signed.{ltZ}
-use Rattle.operators.specs.Numbers.{opOf, opFault}
+use Rattle.faults.specs.Faults.{NONE, OPERATOR, CURVE, PLACING, FLAGS, SOURCE, ARGUMENTS}
+use Rattle.operators.specs.Numbers.{opOf}
+use Rattle.operators.specs.declared.Numbered.{Numbered}
+use Rattle.operators.specs.declared.Numbered.the-variants.{Op, Unknown, Curve}
 use Rattle.places.specs.Gravities.{lastGravity}
 use Rattle.layers.specs.Cells.{cellOf, natOf, outsideZ, badShape, areaOf}
 use Rattle.layers.specs.Limits.{mostOffset, mostFlags, argWords, atOperator, atGravity, atRight, atDown, atFlags, atFirst, atWidth, atHeight, atChannels, atCount}
 
--- the first fault of a list of checks; 0 is none
+-- the first fault of a list of checks
 abbrev pub firstOf : List ℕ → ℕ
-firstOf [] = 0
-firstOf (f ∷ fs) = cond (eqb f 0) (firstOf fs) f
+firstOf [] = NONE
+firstOf (f ∷ fs) = cond (eqb f NONE) (firstOf fs) f
 
 -- a fault where a test holds
 abbrev pub faultIf : Bool → ℕ → ℕ
-faultIf t number = cond t number 0
+faultIf t number = cond t number NONE
+
+-- what a row's operator names: none is OPERATOR, one that is not carried CURVE
+abbrev pub opFault : Numbered → ℕ
+opFault (Op o) = NONE
+opFault Unknown = OPERATOR
+opFault Curve = CURVE
 
 -- an offset is outside its range
 abbrev pub badOffset : ℤ → Bool
 badOffset z = outsideZ (negℤ (pos mostOffset)) (pos mostOffset) z
 
--- 5, PLACING
+-- PLACING
 unfoldable pub badPlacing : List ℤ → ℕ → Bool
 badPlacing table k =
     outsideZ (pos 0) (pos lastGravity) (cellOf table k atGravity)
     || badOffset (cellOf table k atRight)
     || badOffset (cellOf table k atDown)
 
--- 7, SOURCE, for the number of the source samples
+-- SOURCE, for the number of the source samples
 unfoldable pub badSource : List ℤ → ℕ → ℕ → Bool
 badSource table samples k =
     ltZ (cellOf table k atFirst) (pos 0)
@@ -43,10 +52,10 @@ badSource table samples k =
 abbrev pub layerChecks : List ℤ → ℕ → ℕ → List ℕ
 layerChecks table samples k =
     opFault (opOf (cellOf table k atOperator))
-    ∷ faultIf (badPlacing table k) 5
-    ∷ faultIf (outsideZ (pos 0) (pos mostFlags) (cellOf table k atFlags)) 6
-    ∷ faultIf (badSource table samples k) 7
-    ∷ faultIf (outsideZ (pos 0) (pos argWords) (cellOf table k atCount)) 8
+    ∷ faultIf (badPlacing table k) PLACING
+    ∷ faultIf (outsideZ (pos 0) (pos mostFlags) (cellOf table k atFlags)) FLAGS
+    ∷ faultIf (badSource table samples k) SOURCE
+    ∷ faultIf (outsideZ (pos 0) (pos argWords) (cellOf table k atCount)) ARGUMENTS
     ∷ []
 
 unfoldable pub layerFault : List ℤ → ℕ → ℕ → ℕ

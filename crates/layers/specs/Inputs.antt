@@ -6,6 +6,7 @@ use Prim.Native.Nat.{ℕ, zero, suc, _*_}
 use lib.Dec.{eqb}
 use lib.IntN.{ℤ, pos}
 use lib.ListN.{length}
+use Rattle.faults.specs.Faults.{NONE, STACK, TRAY}
 use Rattle.layers.specs.declared.Verdict.{Verdict}
 use Rattle.layers.specs.Cells.{natOf, outsideZ, badShape, areaOf}
 use Rattle.layers.specs.Faults.{layerFault}
@@ -39,27 +40,27 @@ inputsOf width height channels dst count table args samples = record {
 abbrev pub verdict : ℕ → ℕ → Verdict
 verdict number layer = record { number = number; layer = layer }
 
--- 1, STACK, for the lengths of the table and of the arguments
+-- STACK, for the lengths of the table and of the arguments
 unfoldable pub badStack : ℤ → ℕ → ℕ → Bool
 badStack count table args =
     outsideZ (pos 1) (pos mostLayers) count
     || not (eqb table (natOf count * columns))
     || not (eqb args (natOf count * argWords))
 
--- 2, TRAY, for the number of the destination's samples
+-- TRAY, for the number of the destination's samples
 unfoldable pub badDst : ℤ → ℤ → ℤ → ℕ → Bool
 badDst width height channels dst = badShape width height channels || not (eqb dst (areaOf width height channels))
 
--- the first fault of n rows from row k on, with its row; 0 and 0 where there is none
+-- the first fault of n rows from row k on, with its row; 0 where there is none
 unfoldable pub rowsFault : List ℤ → ℕ → ℕ → ℕ → Verdict
-rowsFault table samples k zero = verdict 0 0
+rowsFault table samples k zero = verdict NONE 0
 rowsFault table samples k (suc n) =
-    cond (eqb (layerFault table samples k) 0)
+    cond (eqb (layerFault table samples k) NONE)
     (rowsFault table samples (suc k) n)
     (verdict (layerFault table samples k) k)
 
 unfoldable pub jobFault : Inputs → Verdict
 jobFault i =
-    cond (badStack (i .count) (length (i .table)) (length (i .args))) (verdict 1 0)
-    (cond (badDst (i .width) (i .height) (i .channels) (length (i .dst))) (verdict 2 0)
+    cond (badStack (i .count) (length (i .table)) (length (i .args))) (verdict STACK 0)
+    (cond (badDst (i .width) (i .height) (i .channels) (length (i .dst))) (verdict TRAY 0)
     (rowsFault (i .table) (length (i .samples)) 0 (natOf (i .count))))

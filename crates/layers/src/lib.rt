@@ -3,12 +3,13 @@
 ghost use mathlib.Core.Path.{_≡_};
 ghost use Prim.Native.Nat.{_+_, _*_, _<_, _≤_};
 ghost use lib.ListN.{length};
-ghost use Rattle.operators.specs.Numbers.{opOf, opFault};
+ghost use Rattle.operators.specs.Numbers.{opOf};
 ghost use Rattle.layers.specs.Cells.{cellOf};
-ghost use Rattle.layers.specs.Faults.{badPlacing, layerFault};
+ghost use Rattle.layers.specs.Faults.{opFault, badPlacing, layerFault};
 ghost use Rattle.layers.specs.Inputs.{inputsOf, badStack, badDst, rowsFault, jobFault};
 ghost use Rattle.layers.specs.Layers.{flagged, maskOf, sourceAt, argOf, argsAt, layerAt};
 ghost use Rattle.layers.specs.Limits.{columns, argWords, atOperator};
+use faults::Fault;
 use operators::CompositeOp;
 use operators::Numbered;
 use places::Gravity;
@@ -52,7 +53,7 @@ pub struct Layer {
     pub args: Args,
 }
 
-// The number of a job's first fault and its layer; 0 and 0 where it has none.
+// The number of a job's first fault and its layer, 0 where it has none.
 pub struct Verdict {
     pub number: u64,
     pub layer: u64,
@@ -192,15 +193,15 @@ impl Layer {
         }
     }
 
-    // 3, OPERATOR, or 4, CURVE; 0 for an operator that is carried.
+    // The fault of what a row's operator names.
     fn operator_fault(table: &[i64], k: usize) -> u64
         requires { ⌜ k * columns + columns ≤ length (now table) ⌝ }
         ensures { λ r. ⌜ r ≡ opFault (opOf (cellOf (now (table .entry)) k atOperator)) ⌝ }
     {
         match CompositeOp::from_number(cells::cell(table, k, Self::AT_OPERATOR)) {
-            Numbered::Op(_) => 0,
-            Numbered::Unknown => 3,
-            Numbered::Curve => 4,
+            Numbered::Op(_) => Fault::NONE,
+            Numbered::Unknown => Fault::OPERATOR,
+            Numbered::Curve => Fault::CURVE,
         }
     }
 
@@ -218,28 +219,32 @@ impl Layer {
         cells::outside_at(table, k, Self::AT_DOWN, -Self::OFFSET, Self::OFFSET)
     }
 
-    // The number of the first fault of row k, or 0.
+    // The number of the first fault of row k.
     pub fn fault(table: &[i64], k: usize, samples: usize) -> u64
         requires { ⌜ k * columns + columns ≤ length (now table) ⌝ }
         ensures { λ r. ⌜ r ≡ layerFault (now (table .entry)) samples k ⌝ }
     {
-        let f = Self::operator_fault(table, k);
-        if f != 0 {
-            return f;
+        let operator = Self::operator_fault(table, k);
+        let placing = Self::bad_placing(table, k);
+        let flags = cells::outside_at(table, k, Self::AT_FLAGS, 0, Self::FLAGS);
+        let source = cells::bad_source(table, k, samples);
+        let arguments = cells::outside_at(table, k, Self::AT_COUNT, 0, Self::ARGS as i64);
+        if operator != Fault::NONE {
+            return operator;
         }
-        if Self::bad_placing(table, k) {
-            return 5;
+        if placing {
+            return Fault::PLACING;
         }
-        if cells::outside_at(table, k, Self::AT_FLAGS, 0, Self::FLAGS) {
-            return 6;
+        if flags {
+            return Fault::FLAGS;
         }
-        if cells::bad_source(table, k, samples) {
-            return 7;
+        if source {
+            return Fault::SOURCE;
         }
-        if cells::outside_at(table, k, Self::AT_COUNT, 0, Self::ARGS as i64) {
-            return 8;
+        if arguments {
+            return Fault::ARGUMENTS;
         }
-        0
+        Fault::NONE
     }
 }
 
@@ -275,7 +280,7 @@ fn rows_fault(table: &[i64], layers: usize, samples: usize) -> Verdict
     let mut k = 0;
     while k < layers {
         let f = Layer::fault(table, k, samples);
-        if f != 0 {
+        if f != Fault::NONE {
             return Verdict {
                 number: f,
                 layer: k as u64,
@@ -284,12 +289,12 @@ fn rows_fault(table: &[i64], layers: usize, samples: usize) -> Verdict
         k += 1;
     }
     Verdict {
-        number: 0,
+        number: Fault::NONE,
         layer: 0,
     }
 }
 
-// The first fault of a job's inputs: 1 and 2, then 3 to 8 layer by layer.
+// The first fault of a job's inputs: STACK and TRAY, then the rows' layer by layer.
 pub fn check(
     width: i64,
     height: i64,
@@ -306,13 +311,13 @@ pub fn check(
 {
     if bad_stack(count, table.len(), args.len()) {
         return Verdict {
-            number: 1,
+            number: Fault::STACK,
             layer: 0,
         };
     }
     if bad_dst(width, height, channels, dst.len()) {
         return Verdict {
-            number: 2,
+            number: Fault::TRAY,
             layer: 0,
         };
     }

@@ -148,8 +148,3 @@ lookup k (e ∷ es) = cond (same k (e .word)) (Operator (numberOf (e .op))) (loo
 
 unfoldable pub fromName : List ℕ → Named
 fromName s = lookup (keyOf s) entries
-
--- document 01's number for the answer: 0 is no fault
-abbrev pub nameFault : Named → ℕ
-nameFault (Operator n) = 0
-nameFault Unknown = 3

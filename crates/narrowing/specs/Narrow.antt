@@ -1,5 +1,5 @@
 -- Narrowing a picture of four channels: `to_channels` (deep.rs 373 to 397) on words, `narrow_u8` (deep.rs 857 to 874) after it, and
--- document 01's refusal 11, NARROW. Document 01: gray output uses `luma`, and a gray that comes out NaN is stored as 7FC00000; a channel narrowed
+-- document 01's refusal NARROW. Document 01: gray output uses `luma`, and a gray that comes out NaN is stored as 7FC00000; a channel narrowed
 -- without `luma` is copied with all its bits; bytes as `narrow_u8`; a refusal writes nothing. Definitions only.
 use mathlib.Core.Bool.{cond, not, _||_}
 use mathlib.Core.List.{List, [], _∷_, _++_, map}
@@ -9,6 +9,7 @@ use lib.IntN.{ℤ}
 use lib.ListN.{length}
 use Rattle.float_steps.specs.Whole.{byteOf}
 use Rattle.float_steps.specs.Words.{valueOf, wordOf}
+use Rattle.faults.specs.Faults.{NONE, NARROW}
 use Rattle.pictures.specs.declared.Words.{Words}
 use Rattle.pictures.specs.Widen.{wordsOf, valuesOf}
 use Rattle.layers.specs.Cells.{natOf, badChannels}
@@ -38,10 +39,10 @@ bytesOf words = map (λ w. byteOf (valueOf w)) words
 
 -- ---- the outcome
 
--- 11, NARROW, for the lengths of the input and of the output; 0 where there is no fault
+-- the fault, for the lengths of the input and of the output
 unfoldable pub narrowFault : ℤ → ℕ → ℕ → ℕ
 narrowFault wanted input output =
-    faultIf (badChannels wanted || not (eqb (input % 4) 0) || not (eqb output (input / 4 * natOf wanted))) 11
+    faultIf (badChannels wanted || not (eqb (input % 4) 0) || not (eqb output (input / 4 * natOf wanted))) NARROW
 
 -- the number that is answered and the whole output
 pub record Narrowed : Type 0 where
@@ -53,7 +54,7 @@ narrowed number output = record { number = number; output = output }
 
 -- the output is new where there is no fault, and as it was where there is one
 unfoldable pub answered : ℕ → List ℕ → List ℕ → Narrowed
-answered fault new old = narrowed fault (cond (eqb fault 0) new old)
+answered fault new old = narrowed fault (cond (eqb fault NONE) new old)
 
 -- the input narrowed into the output, as words and as bytes
 abbrev pub narrowOf : ℤ → List ℕ → List ℕ → Narrowed
@@ -68,4 +69,4 @@ narrowBytesOf wanted input output =
 
 -- the channels wanted; 0 where there is a fault
 unfoldable pub acceptedOf : ℤ → ℕ → ℕ → ℕ
-acceptedOf wanted input output = cond (eqb (narrowFault wanted input output) 0) (natOf wanted) 0
+acceptedOf wanted input output = cond (eqb (narrowFault wanted input output) NONE) (natOf wanted) 0

@@ -1,5 +1,5 @@
 // Narrowing: a picture of four channels, lent as words, into a lent output of one, three or four channels, as words or as bytes
-// (`to_channels`, `luma` and `narrow_u8` of deep.rs). A call answers a number, 0 or 11, and writes nothing where that is 11.
+// (`to_channels`, `luma` and `narrow_u8` of deep.rs). A call answers a number, and writes nothing where that is a fault's.
 // The contracts cite specs/Luma and specs/Narrow.
 ghost use mathlib.Core.Path.{_≡_};
 ghost use Prim.Native.Nat.{_*_, _/_, _<_};
@@ -7,6 +7,7 @@ ghost use lib.ListN.{length, getD};
 ghost use Rattle.layers.specs.Cells.{Channels};
 ghost use Rattle.narrowing.specs.Luma.{lumaOf};
 ghost use Rattle.narrowing.specs.Narrow.{narrowedOf, narrowed, narrowOf, narrowBytesOf, acceptedOf};
+use faults::Fault;
 use float_steps::whole::byte;
 use float_steps::words::value;
 use float_steps::words::word;
@@ -15,8 +16,8 @@ use pictures::Rgba;
 use pictures::widen::rgba_at;
 use pictures::widen::values;
 
-// NARROW, the fault's number.
-const REFUSED: u64 = 11;
+// The number of a refused narrowing.
+const REFUSED: u64 = Fault::NARROW;
 
 // The gray of a pixel.
 pub fn luma(p: Rgba) -> f32
@@ -78,7 +79,7 @@ pub fn narrow(wanted: i64, input: &[u32], output: &mut [u32]) -> u64
         output[i] = narrowed_at(channels, input, i);
         i += 1;
     }
-    0
+    Fault::NONE
 }
 
 // The same as bytes.
@@ -94,5 +95,5 @@ pub fn narrow_bytes(wanted: i64, input: &[u32], output: &mut [u8]) -> u64
         output[i] = byte(value(narrowed_at(channels, input, i)));
         i += 1;
     }
-    0
+    Fault::NONE
 }

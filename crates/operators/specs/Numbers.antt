@@ -16,9 +16,3 @@ opOf (pos n) =
     (cond (eqb n (numberOf Interpolate) || eqb n (numberOf Blur)) Curve (Op (opAt n)))
     Unknown
 opOf (negsuc n) = Unknown
-
--- document 01's number for the answer: 0 is no fault
-abbrev pub opFault : Numbered → ℕ
-opFault (Op o) = 0
-opFault Unknown = 3
-opFault Curve = 4

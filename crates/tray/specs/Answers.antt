@@ -2,6 +2,7 @@
 use mathlib.Core.Bool.{cond}
 use mathlib.Core.List.{List}
 use Prim.Native.Nat.{ℕ}
+use Rattle.faults.specs.Faults.{NONE, OPERATOR}
 use Rattle.job.specs.Memory.{Mem, memOf}
 use Rattle.job.specs.Call.{Outcome}
 use Rattle.names.specs.declared.Named.{Named}
@@ -15,10 +16,10 @@ pub record NameAnswer : Type 0 where
 abbrev pub named : ℕ → ℕ → NameAnswer
 named number operator = record { number = number; operator = operator }
 
--- document 01: a refused name answers 3 and no operator
+-- document 01: a refused name answers OPERATOR and no operator: the caller's is as it was before
 abbrev pub nameOf : Named → ℕ → NameAnswer
-nameOf (Operator n) before = named 0 n
-nameOf Unknown before = named 3 before
+nameOf (Operator n) before = named NONE n
+nameOf Unknown before = named OPERATOR before
 
 -- the job's memory after a call, and its answer as four numbers: finished is 1 for yes and 0 for no
 pub record HostOutcome : Type 0 where

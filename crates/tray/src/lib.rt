@@ -10,10 +10,8 @@ ghost use Rattle.narrowing.specs.Narrow.{narrowed, narrowOf, narrowBytesOf};
 ghost use Rattle.job.specs.Memory.{memOf};
 ghost use Rattle.job.specs.Call.{callOf};
 ghost use Rattle.tray.specs.Answers.{named, nameOf, jobOutcome, hostOutcome};
+use faults::Fault;
 use names::Named;
-
-// OPERATOR, the number of a name that is not known.
-const UNKNOWN: u64 = 3;
 
 // 1 for yes, 0 for no.
 fn flag(b: bool) -> u64
@@ -33,9 +31,9 @@ pub extern "C" fn tray_from_name(name: &[u8], operator: &mut u64) -> u64
     match names::from_name(name) {
         Named::Operator(n) => {
             *operator = n;
-            0
+            Fault::NONE
         }
-        Named::Unknown => UNKNOWN,
+        Named::Unknown => Fault::OPERATOR,
     }
 }
 

@@ -13,6 +13,7 @@ use Rattle.float_steps.specs.Order.{smallerOf, clampOf}
 use Rattle.float_steps.specs.Remainder.{remEuclidOf, wrapOf}
 use Rattle.float_steps.specs.Root.{sqrtOf}
 use Rattle.float_steps.specs.Whole.{byteOf}
+use Rattle.faults.specs.Faults.{NONE}
 use Rattle.operators.specs.declared.CompositeOp.{CompositeOp}
 use Rattle.operators.specs.declared.CompositeOp.the-variants as O
 use Rattle.places.specs.Placement.{placementOf}
@@ -20,9 +21,7 @@ use Rattle.places.specs.Spots.{spotOf}
 use Rattle.places.specs.declared.Gravity.the-variants.{Centre}
 use Rattle.places.specs.declared.Spot.{Spot}
 use Rattle.places.specs.declared.Spot.the-variants.{At, Off}
-use Rattle.names.specs.Names.{bytes, entries, isKept, lower, fromName, nameFault}
-use Rattle.names.specs.declared.Named.{Named}
-use Rattle.names.specs.declared.Named.the-variants.{Operator, Unknown}
+use Rattle.names.specs.Names.{bytes, entries, isKept, lower, fromName}
 use Rattle.pictures.specs.declared.Rgba.{Rgba}
 use Rattle.blends.specs.Blends.{colorBurnOf}
 use Rattle.pixels.specs.Channel.{overUnionOf}
@@ -33,6 +32,7 @@ use Rattle.layers.specs.Inputs.{Inputs, inputsOf, badStack, badDst, rowsFault, 
 use Rattle.job.specs.Memory.{Mem, memOf, positionOf}
 use Rattle.job.specs.Job.{memoryFault, callFault}
 use Rattle.job.specs.Call.{writeAt, runOf, acceptedOf, callOf}
+use Rattle.tray.specs.Answers.{NameAnswer, nameOf}
 
 -- a case: what a definition is applied to, and what it must give
 pub data Case : Type 0 where
@@ -45,7 +45,7 @@ pub data Case : Type 0 where
   centre : ℕ → ℕ → ℤ → Case
   -- a tile at an offset, of a source so wide: a column, and the source's column there
   tile : ℕ → ℕ → ℕ → ℕ → Case
-  -- a name's number, or its fault's
+  -- the operator that a name spells, or the number under which it is refused
   name : String → ℕ → Case
   unknown : String → ℕ → Case
   -- calls of a job with so many stores: of each the stores made, the mark after it, and 1 where it finished
@@ -68,9 +68,12 @@ abbrev pub isAt : Spot → ℕ → Bool
 isAt (At m) n = eqb m n
 isAt Off n = false
 
-abbrev pub isOperator : Named → ℕ → Bool
-isOperator (Operator m) n = eqb m n
-isOperator Unknown n = false
+-- what a caller is answered who has the operator 70, which is none
+abbrev pub nameAnswer : String → NameAnswer
+nameAnswer text = nameOf (fromName (bytes text)) 70
+
+abbrev pub sameAnswer : NameAnswer → ℕ → ℕ → Bool
+sameAnswer a number operator = eqb (a .number) number && eqb (a .operator) operator
 
 -- a destination of 2 by 1 pixels and one layer, Over with all channels, on work buffers that hold anything
 abbrev pub twoByOne : Inputs
@@ -101,9 +104,9 @@ holds (byte v r) = eqb (byteOf (valueOf v)) r
 holds (pixel op s d r) = sameWords (pixelOf op unused (pixelAt s) (pixelAt d)) r
 holds (centre dst src r) = sameInteger (placementOf Centre dst dst src src (pos 0) (pos 0) .x) r
 holds (tile offset width column r) = isAt (spotOf true width (pos column -ℤ pos offset)) r
-holds (name text r) = isOperator (fromName (bytes text)) r
+holds (name text r) = sameAnswer (nameAnswer text) NONE r
 holds (job allowances r) = sameList (answers begun allowances) r
-holds (unknown text r) = eqb (nameFault (fromName (bytes text))) r
+holds (unknown text r) = sameAnswer (nameAnswer text) r 70
 
 abbrev pub all : List Case → Bool
 all [] = true

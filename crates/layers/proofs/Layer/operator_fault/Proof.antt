@@ -2,8 +2,9 @@
 use mathlib.Core.Path.{_≡_, sym, ap, _∙_}
 use borrow.Author.Needs.{sfits-of}
 use mir.Facts.{toZ-ofZ}
-use Rattle.operators.specs.Numbers.{opOf, opFault}
+use Rattle.operators.specs.Numbers.{opOf}
 use Rattle.layers.specs.Cells.{cellOf}
+use Rattle.layers.specs.Faults.{opFault}
 use Rattle.layers.specs.Limits.{atOperator}
 use borrow.Author.Needs.{needs}
 use Rattle.layers.proofs.Layer.operator_fault.Statement.{statement}
