@@ -1,6 +1,6 @@
 -- The source's coordinates: what a test tells of them, and their bounds. Assumes nothing.
 use mathlib.Core.Path.{_≡_, refl, sym, ap, _∙_}
-use mathlib.Core.Bool.{Bool, true, false, cond, _&&_}
+use mathlib.Core.Bool.{Bool, true, false, cond}
 use Prim.Native.Nat.{ℕ, suc, _+_, _-_, _*_, _/_, _%_, _<_, _≤_}
 use native.Mathlib.Omega.{arith}
 use native.Mathlib.Nat.{mod-lt, div-add-mod', mul-le-mul, suc-mul, mul-comm, le-refl}
@@ -41,18 +41,6 @@ spot-untiled side z = refl
 pub no-column : (tile : Bool) (sh : ℕ) → false ≡ tiles tile 0 sh
 no-column true sh = refl
 no-column false sh = refl
-
-stuck : (b : Bool) → false ≡ (b && false)
-stuck true = refl
-stuck false = refl
-
-pub no-row : (tile : Bool) (sw : ℕ) → false ≡ tiles tile sw 0
-no-row true sw = stuck (ltb 0 sw)
-no-row false sw = refl
-
-pub some-pixels : (tile : Bool) (sw sh : ℕ) → (sw ≡ 0 → ⊥) → (sh ≡ 0 → ⊥) → tile ≡ tiles tile sw sh
-some-pixels true sw sh h k = rw (lt-ltb 0 sw (omega arith), lt-ltb 0 sh (omega arith))
-some-pixels false sw sh h k = refl
 
 -- ---- the remainder is Euclid's: with the quotient rounded down it makes up the number
 

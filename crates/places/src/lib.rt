@@ -217,10 +217,10 @@ pub fn repeats(tile: bool, sw: usize, sh: usize) -> bool
     if sw == 0 {
         return false;
     }
-    if sh == 0 {
-        return false;
+    if tile {
+        return 0 < sh;
     }
-    tile
+    false
 }
 
 // The index, row by row, of the pixel at a column and a row of a source that is sw wide.
