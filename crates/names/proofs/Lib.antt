@@ -1,4 +1,5 @@
 pub mod Reading
 pub mod Packing
 pub mod Known
+pub mod Ascii
 pub mod Distinct

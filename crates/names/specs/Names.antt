@@ -1,7 +1,6 @@
 -- The names of the operators and how a text is read as one: `name` (composite.rs 272 to 345) and `from_name` (composite.rs 351 to 376).
 -- Document 01: "'-', '_' and space are dropped, A to Z lowered, the rest must be one of the 70 names or 13 aliases of `from_name`".
--- "Bytes that are no UTF-8 are an unknown name": such bytes have one above 127, which is neither dropped nor lowered, and the
--- names have none.
+-- "Bytes that are no UTF-8 are an unknown name": such bytes have one of 128 or more, and every text that has one is unknown (`beyond-ascii`, proofs/Ascii).
 use mathlib.Core.Bool.{Bool, true, false, cond, not, _||_, _&&_}
 use mathlib.Core.List.{List, [], _∷_, map}
 use Prim.Native.Nat.{ℕ, _+_}
