@@ -1,7 +1,7 @@
--- Both pixels of `axisOf` lie on the side, for every coordinate and every side that has a pixel. Assumes nothing.
+-- Both pixels of `axisOf` lie on the side, for every coordinate and every side that has a pixel and whose numbers are f32s. Assumes nothing.
 use mathlib.Core.Path.{_≡_, refl, sym, ap, subst, _∙_}
 use mathlib.Core.Bool.{Bool, true, false, not, cond, true≢false}
-use Prim.Native.Nat.{ℕ, suc, _*_, _/_, _^_, _<_, _≤_, min}
+use Prim.Native.Nat.{ℕ, suc, _-_, _*_, _/_, _^_, _<_, _≤_, min}
 use native.Mathlib.Nat.{mul-one, le-trans, le-of-eq, lt-of-le-of-lt, div-lt-iff-lt-mul, mul-right-comm, le-of-mul-le-mul-right, suc-mul}
 use native.Mathlib.Omega.{arith}
 use lib.IntN.{pos}
@@ -13,7 +13,7 @@ use lib.Ieee.Back.{round-whole}
 use borrow.Author.Tests.{ltb-false}
 use Rattle.float_steps.specs.Order.{clampOf}
 use Rattle.float_steps.specs.Whole.{floorOf}
-use Rattle.float_steps.specs.Axis.{heldOf, lastOf, axisAt, axisOf}
+use Rattle.float_steps.specs.Axis.{heldOf, axisAt, axisOf}
 use Rattle.float_steps.proofs.Choice.{never}
 use Rattle.float_steps.proofs.WholePart.{floor-value}
 
@@ -66,12 +66,8 @@ floor-held x n h = go (isNan x) (lt x (ofBits binary32 0)) (lt (ofInt binary32 (
     go false false true p q = floor-hi n h
     go false false false p q = floor-under (ofInt binary32 (pos n)) x n (whole-hi n h) q (subst (λ (z : Bool). T (not z)) (sym p) tt)
 
--- each whole number up to the last index is an f32
-last-small : (side : ℕ) → lastOf side ≤ 2 ^ 24
-last-small side = omega arith
-
-pub axis-inside : (x : Float) (side : ℕ) → 1 ≤ side → (axisOf x side .at < side) × (axisOf x side .next < side)
+pub axis-inside : (x : Float) (side : ℕ) → 1 ≤ side → side ≤ 2 ^ 24 → (axisOf x side .at < side) × (axisOf x side .next < side)
 unfolding axisOf axisAt
-axis-inside x side h =
-    let f : floorOf (heldOf x (ofInt binary32 (pos (lastOf side)))) ≤ lastOf side = floor-held x (lastOf side) (last-small side) in
+axis-inside x side h small =
+    let f : floorOf (heldOf x (ofInt binary32 (pos (side - 1)))) ≤ side - 1 = floor-held x (side - 1) (omega arith) in
     (omega arith, omega arith)

@@ -12,14 +12,11 @@ use Rattle.float_steps.specs.declared.axis.Axis.{Axis}
 unfoldable pub heldOf : Float → Float → Float
 heldOf x hi = cond (isNan x) f0 (clampOf x f0 hi)
 
--- The last index of a side. A side of 0, which never gets here, is taken as 1; and one past 2 ^ 24, up to which each whole number is an f32, as 2 ^ 24 + 1.
-abbrev pub lastOf : ℕ → ℕ
-lastOf side = min (side - 1) 0x100_0000
-
 -- the pixel at or before the coordinate v, the one after it, and how far v is along
 unfoldable pub axisAt : Float → ℕ → Axis
 axisAt v last = record { at = floorOf v; next = min (floorOf v + 1) last; along = v ⊖ ofInt binary32 (pos (floorOf v)) }
 
-unfoldable pub axisOf : Float → ℕ → Axis
+-- where x falls on a side that has pixels
+unfoldable pub axisOf : Float → (side : ℕ) → Axis
 unfolding axisAt
-axisOf x side = axisAt (heldOf x (ofInt binary32 (pos (lastOf side)))) (lastOf side)
+axisOf x side = axisAt (heldOf x (ofInt binary32 (pos (side - 1)))) (side - 1)

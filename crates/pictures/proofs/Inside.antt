@@ -1,7 +1,7 @@
 -- Where a pixel lies in its picture. Assumes nothing.
 use mathlib.Core.Path.{_≡_}
 use mathlib.Core.List.{List}
-use Prim.Native.Nat.{ℕ, suc, _+_, _*_, _<_, _≤_}
+use Prim.Native.Nat.{ℕ, suc, _+_, _*_, _^_, _<_, _≤_}
 use native.Mathlib.Omega.{arith}
 use lib.ListN.{length}
 use lib.Ieee.{Float}
@@ -28,16 +28,16 @@ words-inside c j n a =
     omega (arith, suc-mul j c, mul-comm c j)
 
 -- the four neighbours of a point of a picture that has pixels
-pub in-picture : (picture : List ℕ) (c w h : ℕ) (x y : Float) (a b : Axis) → 1 ≤ c → c ≤ 4 → 1 ≤ w → 1 ≤ h → length picture ≡ w * h * c → a ≡ axisOf x w → b ≡ axisOf y h → InPicture picture c w h a b
-in-picture picture c w h x y a b some most i j whole p q =
+pub in-picture : (picture : List ℕ) (c w h : ℕ) (x y : Float) (a b : Axis) → 1 ≤ c → c ≤ 4 → 1 ≤ w → w ≤ 2 ^ 24 → 1 ≤ h → h ≤ 2 ^ 24 → length picture ≡ w * h * c → a ≡ axisOf x w → b ≡ axisOf y h → InPicture picture c w h a b
+in-picture picture c w h x y a b some most i is j js whole p q =
     rw (p, q)
     record {
       some = some;
       most = most;
-      left = axis-inside x w i .0;
-      right = axis-inside x w i .1;
-      upper = axis-inside y h j .0;
-      lower = axis-inside y h j .1;
+      left = axis-inside x w i is .0;
+      right = axis-inside x w i is .1;
+      upper = axis-inside y h j js .0;
+      lower = axis-inside y h j js .1;
       whole = whole;
     }
 

@@ -65,9 +65,9 @@ pub fn mix(p: [[f32; 4]; 4], fx: f32, fy: f32) -> Rgba
     }
 }
 
-// A picture of w by h pixels, neither side 0, read at (x, y).
+// A picture of w by h pixels, neither side 0 or past 2^24, read at (x, y).
 pub fn bilinear(picture: &[u32], channels: usize, w: usize, h: usize, x: f32, y: f32) -> Rgba
-    requires { ⌜ (1 ≤ channels) × (channels ≤ 4) × (1 ≤ w) × (1 ≤ h) × (length (now picture) ≡ w * h * channels) ⌝ }
+    requires { ⌜ (1 ≤ channels) × (channels ≤ 4) × (1 ≤ w) × (w ≤ 0x100_0000) × (1 ≤ h) × (h ≤ 0x100_0000) × (length (now picture) ≡ w * h * channels) ⌝ }
     ensures { λ r. ⌜ r ≡ bilinearOf (λ j. valuesOf (rgbaAt (now (picture .entry)) channels j)) w h x y ⌝ }
 {
     let ax = locate(x, w);

@@ -19,7 +19,7 @@ map-coordinate-requires-2 c κs = let b = c .before .before .pre in omega (arith
 bilinear-requires : tie.Need-bilinear-requires
 bilinear-requires c κs =
     let b = c .before .before .before .pre in
-    (b .picture .some, b .picture .most, some-width _ _ _ (b .inside), some-height _ _ _ (b .inside), b .picture .whole)
+    (b .picture .some, b .picture .most, some-width _ _ _ (b .inside), b .picture .width, some-height _ _ _ (b .inside), b .picture .height, b .picture .whole)
 
 returns : tie.Need-returns
 returns c = rw (c .bilinear .ensures, c .before .map-coordinate2 .ensures, c .before .before .map-coordinate .ensures)

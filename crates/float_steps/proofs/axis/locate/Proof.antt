@@ -1,7 +1,7 @@
 -- `axis::locate` meets its contract: the floor of a coordinate held up to the last index is at most that index, which an f32 holds exactly.
 -- Assumes nothing.
 use mathlib.Core.Path.{sym, subst}
-use Prim.Native.Nat.{_^_, _≤_}
+use Prim.Native.Nat.{_-_, _≤_}
 use native.Mathlib.Omega.{arith}
 use lib.Ieee.{Float, binary32}
 use borrow.Author.Needs.{needs}
@@ -13,22 +13,22 @@ use Rattle.float_steps.proofs.axis.locate.Statement.{statement}
 use Rattle.float_steps.proofs.axis.locate.Tie as tie
 
 int-to-float-held : tie.Need-int-to-float-held
-int-to-float-held c = in-float binary32 (c .before .last-of .result) (omega (arith, c .before .last-of .ensures))
+int-to-float-held c = in-float binary32 _ (omega (arith, c .before .pre))
 
 int-to-float-t7 : tie.Need-int-to-float-t7
 int-to-float-t7 c =
-    let last = c .before .before .before .before .before .last-of in
-    let low : last .result ≤ 2 ^ 24 = omega (arith, last .ensures) in
-    let within : floorOf (c .before .before .before .held .result) ≤ last .result =
-    subst (λ (v : Float). floorOf v ≤ last .result) (sym (c .before .before .before .held .ensures)) (floor-held (c .before .before .before .before .before .before .args .x) (last .result) low) in
-    in-float binary32 (c .before .before .floor .result) (omega (arith, c .before .before .floor .ensures))
+    let s = c .before .before .before .before .before in
+    let last = s .args .side - 1 in
+    let within : floorOf (c .before .before .before .held .result) ≤ last =
+    subst (λ (v : Float). floorOf v ≤ last) (sym (c .before .before .before .held .ensures)) (floor-held (s .args .x) last (omega (arith, s .pre))) in
+    in-float binary32 (c .before .before .floor .result) (omega (arith, c .before .before .floor .ensures, s .pre))
 
 pub locate-spec : {M : Type 1} → statement M
 unfolding axisOf axisAt
 locate-spec =
     tie.close
     (tie.spec
-    (λ c κs. search needs)
+    (λ c. search needs)
     int-to-float-held
     (λ c κs. search needs)
     (λ c κs. search needs)

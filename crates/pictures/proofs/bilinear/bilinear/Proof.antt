@@ -8,7 +8,7 @@ use Rattle.pictures.proofs.bilinear.bilinear.Tie as tie
 neighbours-requires : tie.Need-neighbours-requires
 neighbours-requires c κs =
     let p = c .before .before .before .pre in
-    in-picture _ _ _ _ _ _ _ _ (p .0) (p .1) (p .2) (p .3) (p .4) (c .before .locate .ensures) (c .locate2 .ensures)
+    in-picture _ _ _ _ _ _ _ _ (p .0) (p .1) (p .2) (p .3) (p .4) (p .5) (p .6) (c .before .locate .ensures) (c .locate2 .ensures)
 
 returns : tie.Need-returns
 unfolding bilinearOf
