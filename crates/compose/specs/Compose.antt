@@ -1,6 +1,7 @@
--- `compose_float` (composite.rs 594 to 647) restated over words, pixel by pixel: one pixel of the result from the layer, a reader of the picture
--- beneath and the pixel's place. Document 01: "Where a source lands", "Float steps" on what is stored. Definitions only.
-use mathlib.Core.Bool.{Bool, true, cond}
+-- `compose_float` (composite.rs 594 to 647) restated over words, pixel by pixel and in its order: one pixel of the result from the layer, the
+-- destination's sides dw and dh, a reader of the picture beneath, and the pixel's number j, row by row: its column x is j % dw, its row y is j / dw.
+-- Document 01: "Where a source lands", "Float steps" on what is stored. Definitions only.
+use mathlib.Core.Bool.{Bool, true, false, cond, _||_}
 use mathlib.Core.List.{List}
 use Prim.Native.Nat.{ℕ, _*_, _/_, _%_}
 use lib.IntN.{pos}
@@ -8,10 +9,11 @@ use lib.ListN.{take, drop}
 use lib.Ieee.{Float, binary32, ofInt}
 use Rattle.float_steps.specs.Notation.{_⊕_, _⊖_, _⊗_, half}
 use Rattle.float_steps.specs.Words.{wordOf}
-use Rattle.operators.specs.Operators.{same, isMap}
+use Rattle.operators.specs.Operators.{same}
 use Rattle.operators.specs.declared.CompositeOp.the-variants as O
 use Rattle.places.specs.Placement.{placementOf}
 use Rattle.places.specs.Spots.{sourceIndex}
+use Rattle.places.specs.declared.Corner.{Corner}
 use Rattle.places.specs.declared.Spot.{Spot}
 use Rattle.places.specs.declared.Spot.the-variants.{At, Off}
 use Rattle.layers.specs.declared.ChannelMask.{ChannelMask}
@@ -24,68 +26,59 @@ use Rattle.pictures.specs.declared.Rgba.{Rgba}
 use Rattle.pictures.specs.declared.Words.{Words}
 use Rattle.pixels.specs.Pixel.{pixelOf, clear}
 use Rattle.compose.specs.Arguments.{paramsOf}
-use Rattle.compose.specs.declared.Plan.{Plan}
 
--- ---- before the rows: from `dw` (composite.rs 597) to `tile` (composite.rs 603)
+-- ---- before the rows: from `d` (composite.rs 595) to `tile` (composite.rs 603)
 
--- the source's picture, a part of the source samples
+-- `src`: the source's picture, a part of the source samples
 abbrev pub sourceOf : List ℕ → Source → List ℕ
 sourceOf samples source = take (source .width * source .height * source .channels) (drop (source .first) samples)
 
--- a layer on a destination of dw by dh pixels
-unfoldable pub planOf : Layer → ℕ → ℕ → Plan
-planOf l dw dh = record {
-  op = l .op;
-  params = paramsOf (l .op) (l .args);
-  map = isMap (l .op);
-  displace = same (l .op) O.Displace;
-  corner = placementOf (l .gravity) dw dh (l .source .width) (l .source .height) (l .right) (l .down);
-  tile = l .tile;
-  overlay = l .«outside_overlay»;
-  mask = l .mask;
-  width = l .source .width;
-  height = l .source .height;
-  channels = l .source .channels;
-  dw = dw;
-  dh = dh;
-}
+-- `ox` (composite.rs 598) and `oy`: the source's top left corner
+abbrev pub cornerOf : Layer → (dw dh : ℕ) → Corner
+cornerOf l dw dh = placementOf (l .gravity) dw dh (l .source .width) (l .source .height) (l .right) (l .down)
 
 -- ---- one pixel of a `row` (composite.rs 608 to 644)
 
--- the pixel of the source on destination pixel j, row by row
-abbrev pub spotOn : Plan → ℕ → Spot
-spotOn p j = sourceIndex (p .tile) (p .width) (p .height) (p .corner) (j % p .dw) (j / p .dw)
+-- `sx` (composite.rs 610) and `sy`: the source's pixel on pixel j, if there is one
+abbrev pub spotOn : Layer → (dw dh j : ℕ) → Spot
+spotOn l dw dh j = sourceIndex (l .tile) (l .source .width) (l .source .height) (cornerOf l dw dh) (j % dw) (j / dw)
 
--- Whether a layer writes a pixel: it lies on the source, or overlay is on. The one place that decides it.
-abbrev pub writes : Plan → Spot → Bool
-writes p (At n) = true
-writes p Off = p .overlay
+-- `inside` (composite.rs 615)
+abbrev pub inside : Spot → Bool
+inside (At n) = true
+inside Off = false
 
--- the source's pixel; off the source (0, 0, 0, 0)
-unfoldable pub sourcePixel : Plan → List ℕ → Spot → Rgba
-sourcePixel p source (At n) = valuesOf (rgbaAt source (p .channels) n)
-sourcePixel p source Off = clear
+-- Whether a layer writes pixel j, as `outside_overlay` (composite.rs 616 to 618) has it: it lies on the source, or overlay is on. The one predicate that decides it.
+unfoldable pub writes : Layer → (dw dh j : ℕ) → Bool
+writes l dw dh j = inside (spotOn l dw dh j) || l .«outside_overlay»
+
+-- `sp` (composite.rs 619 to 624): the source's pixel, of so many channels; off the source (0, 0, 0, 0)
+unfoldable pub sourcePixel : List ℕ → (channels : ℕ) → Spot → Rgba
+sourcePixel source channels (At n) = valuesOf (rgbaAt source channels n)
+sourcePixel source channels Off = clear
 
 -- a whole number as an f32
 abbrev pub floatOf : ℕ → Float
 floatOf n = ofInt binary32 (pos n)
 
--- The maps: where `Displace` (composite.rs 1156 to 1162) and `Distort` (composite.rs 1163 to 1169) read the destination, in one coordinate. v is the
--- source's red for x, its green for y; by is X or Y.
-unfoldable pub mapCoordinate : Bool → ℕ → Float → Float → Float
-mapCoordinate displace at v by = cond displace (floatOf at ⊕ (v ⊖ half) ⊗ by) (v ⊗ by)
+-- `px` and `py` of `Displace` (composite.rs 1156 to 1162) and of `Distort` (composite.rs 1163 to 1169): at is x or y, v the source's red or green, by X or Y
+abbrev pub displaced : (at : ℕ) → (v by : Float) → Float
+displaced at v by = floatOf at ⊕ (v ⊖ half) ⊗ by
 
-abbrev pub mapped : Plan → (ℕ → Rgba) → Rgba → ℕ → Rgba
-mapped p beneath s j =
-    bilinearOf beneath (p .dw) (p .dh)
-    (mapCoordinate (p .displace) (j % p .dw) (s .r) (p .params .a))
-    (mapCoordinate (p .displace) (j / p .dw) (s .g) (p .params .b))
+abbrev pub distorted : (v by : Float) → Float
+distorted v by = v ⊗ by
 
--- `r` (composite.rs 627 to 631): of the source's pixel s and the destination's own pixel d
-unfoldable pub resultOf : Plan → (ℕ → Rgba) → Rgba → Rgba → ℕ → Rgba
-resultOf p beneath s d j = cond (p .map) (mapped p beneath s j) (pixelOf (p .op) (p .params) s d)
+-- `r` (composite.rs 627 to 631) with the arms of `sample` (composite.rs 1154), of the source's pixel s and the destination's own pixel d; a map reads
+-- the whole picture beneath.
+-- The Rust's `is_map` comprises Blur besides: a layer with Blur is refused (fault 4) and never gets here.
+unfoldable pub resultOf : Layer → (dw dh : ℕ) → (ℕ → Rgba) → (s d : Rgba) → (j : ℕ) → Rgba
+resultOf l dw dh beneath s d j =
+    let p = paramsOf (l .op) (l .args) in
+    cond (same (l .op) O.Displace) (bilinearOf beneath dw dh (displaced (j % dw) (s .r) (p .a)) (displaced (j / dw) (s .g) (p .b)))
+    (cond (same (l .op) O.Distort) (bilinearOf beneath dw dh (distorted (s .r) (p .a)) (distorted (s .g) (p .b)))
+    (pixelOf (l .op) p s d))
 
--- a channel: written where its flag is on, a NaN as 7FC00000; else kept with all its bits
+-- a channel, as `red` (composite.rs 632 to 634): written where its flag is on, a NaN as 7FC00000; else kept with all its bits
 abbrev pub writtenWord : Bool → Float → ℕ → ℕ
 writtenWord on v kept = cond on (wordOf v) kept
 
@@ -93,18 +86,15 @@ unfoldable pub writtenOf : ChannelMask → Rgba → Words → Words
 writtenOf m v kept =
     wordsOf (writtenWord (m .red) (v .r) (kept .r)) (writtenWord (m .green) (v .g) (kept .g)) (writtenWord (m .blue) (v .b) (kept .b)) (writtenWord (m .alpha) (v .a) (kept .a))
 
--- Pixel j of the result, from its own words beneath and, for a map, the values of the whole picture beneath.
-unfoldable pub composedBy : Plan → List ℕ → (ℕ → Rgba) → Words → ℕ → Words
-composedBy p source beneath own j =
-    cond (writes p (spotOn p j)) (writtenOf (p .mask) (resultOf p beneath (sourcePixel p source (spotOn p j)) (valuesOf own) j) own) own
-
 -- Pixel j of a layer on the picture beneath, whose pixel i is `beneath i`.
-abbrev pub composedAt : List ℕ → Layer → ℕ → ℕ → (ℕ → Words) → ℕ → Words
+unfoldable pub composedAt : List ℕ → Layer → (dw dh : ℕ) → (ℕ → Words) → (j : ℕ) → Words
 composedAt samples l dw dh beneath j =
-    composedBy (planOf l dw dh) (sourceOf samples (l .source)) (λ i. valuesOf (beneath i)) (beneath j) j
+    let s = sourcePixel (sourceOf samples (l .source)) (l .source .channels) (spotOn l dw dh j) in
+    let r = resultOf l dw dh (λ i. valuesOf (beneath i)) s (valuesOf (beneath j)) j in
+    cond (writes l dw dh j) (writtenOf (l .mask) r (beneath j)) (beneath j)
 
 -- ---- the picture
 
 -- the whole result of `compose_float`: a layer on a destination of so many channels
-abbrev pub composedOf : List ℕ → Layer → ℕ → ℕ → ℕ → List ℕ → List ℕ
+abbrev pub composedOf : List ℕ → Layer → (dw dh channels : ℕ) → List ℕ → List ℕ
 composedOf samples l dw dh channels dst = flat (composedAt samples l dw dh (rgbaAt dst channels)) 0 (dw * dh)

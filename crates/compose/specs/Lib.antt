@@ -1,4 +1,5 @@
 pub mod Arguments
 pub mod Compose
+pub mod Plans
 pub mod Ready
 pub mod Single

@@ -1,9 +1,15 @@
--- What composing with a plan asks: bounds that an accepted layer meets. They are slack, as those of places are.
+-- What a layer's plan is, and what composing with it asks: bounds that an accepted layer meets. They are slack, as those of places are.
 use mathlib.Core.Path.{_≡_}
+use mathlib.Core.List.{List}
 use Prim.Native.Nat.{ℕ, _+_, _*_, _<_, _≤_}
 use lib.Signed.{mag}
 use Rattle.places.specs.Bounds.{slack, reach}
+use Rattle.layers.specs.declared.Layer.{Layer}
 use Rattle.layers.specs.GoodLayers.{Picture}
+use Rattle.pictures.specs.Widen.{valuesOf}
+use Rattle.pictures.specs.declared.Words.{Words}
+use Rattle.compose.specs.Compose.{sourceOf, composedAt}
+use Rattle.compose.specs.Plans.{planOf, composedBy}
 use Rattle.compose.specs.declared.Plan.{Plan}
 
 -- the plan's source, whose samples are so many, lies within reach of the destination
@@ -15,6 +21,12 @@ pub record Ready (p : Plan) (source : ℕ) : Type 0 where
   pub some : 1 ≤ p .channels
   pub most : p .channels ≤ 4
   pub whole : source ≡ p .width * p .height * p .channels
+
+-- the layer's plan: what is computed from it and from the layer's source is what the layer's definition says
+pub record Planned (l : Layer) (dw dh : ℕ) (p : Plan) : Type 0 where
+  pub made : p ≡ planOf l dw dh
+  pub ready : Ready p (l .source .width * l .source .height * l .source .channels)
+  pub composes : (samples : List ℕ) (beneath : ℕ → Words) (j : ℕ) → composedBy p (sourceOf samples (l .source)) (λ i. valuesOf (beneath i)) (beneath j) j ≡ composedAt samples l dw dh beneath j
 
 -- pixel j of the picture beneath, whose words are so many, of so many channels
 pub record Beneath (p : Plan) (words channels j : ℕ) : Type 0 where

@@ -4,8 +4,9 @@ ghost use Prim.Native.Nat.{_+_, _*_, _/_, _%_, _≤_};
 ghost use lib.ListN.{length};
 ghost use Rattle.pictures.specs.Widen.{rgbaAt, valuesOf};
 ghost use Rattle.places.specs.Bounds.{slack, Measured, Under};
-ghost use Rattle.compose.specs.Compose.{planOf, sourcePixel, mapCoordinate, mapped, resultOf, writtenWord, writtenOf, writes, composedBy};
-ghost use Rattle.compose.specs.Ready.{Ready, Beneath};
+ghost use Rattle.compose.specs.Compose.{sourcePixel, writtenWord, writtenOf};
+ghost use Rattle.compose.specs.Plans.{readsThrough, mapCoordinate, mapped, resultBy, writesBy, composedBy};
+ghost use Rattle.compose.specs.Ready.{Ready, Planned, Beneath};
 use crate::Plan;
 use crate::arguments;
 use float_steps::words::word;
@@ -22,15 +23,25 @@ use places::Spot;
 use places::placement;
 use places::source_index;
 
+// Whether the operator reads the destination through the source: one of the two maps that are carried.
+fn reads_through(op: CompositeOp) -> bool
+    ensures { λ r. ⌜ r ≡ readsThrough op ⌝ }
+{
+    if op.is(CompositeOp::Displace) {
+        return true;
+    }
+    op.is(CompositeOp::Distort)
+}
+
 // The layer's plan on a destination of dw by dh pixels.
 pub fn plan(l: Layer, dw: usize, dh: usize) -> Plan
     requires { ⌜ (Measured dw dh (l .source .width) (l .source .height) (l .right) (l .down)) × (1 ≤ l .source .channels) × (l .source .channels ≤ 4) ⌝ }
-    ensures { λ r. ⌜ (r ≡ planOf l dw dh) × (Ready r (l .source .width * l .source .height * l .source .channels)) ⌝ }
+    ensures { λ r. ⌜ Planned l dw dh r ⌝ }
 {
     let op = l.op;
     let source = l.source;
     let params = arguments::params(op, l.args);
-    let map = op.is_map();
+    let map = reads_through(op);
     let displace = op.is(CompositeOp::Displace);
     let gravity = l.gravity;
     let corner = placement(
@@ -63,7 +74,7 @@ pub fn plan(l: Layer, dw: usize, dh: usize) -> Plan
 // The source's pixel at a spot; off the source (0, 0, 0, 0).
 fn source_pixel(p: Plan, source: &[u32], spot: Spot) -> Rgba
     requires { ⌜ (Ready p (length (now source))) × (Under (p .width * p .height) spot) ⌝ }
-    ensures { λ r. ⌜ r ≡ sourcePixel p (now (source .entry)) spot ⌝ }
+    ensures { λ r. ⌜ r ≡ sourcePixel (now (source .entry)) (p .channels) spot ⌝ }
 {
     match spot {
         Spot::At(n) => values(rgba_at(source, p.channels, n)),
@@ -101,7 +112,7 @@ fn map_pixel(p: Plan, picture: &[u32], channels: usize, s: Rgba, j: usize) -> Rg
 // The operator's result, of the source's pixel s and the destination's own pixel d.
 fn result(p: Plan, picture: &[u32], channels: usize, s: Rgba, d: Rgba, j: usize) -> Rgba
     requires { ⌜ Beneath p (length (now picture)) channels j ⌝ }
-    ensures { λ r. ⌜ r ≡ resultOf p (λ i. valuesOf (rgbaAt (now (picture .entry)) channels i)) s d j ⌝ }
+    ensures { λ r. ⌜ r ≡ resultBy p (λ i. valuesOf (rgbaAt (now (picture .entry)) channels i)) s d j ⌝ }
 {
     if p.map {
         return map_pixel(p, picture, channels, s, j);
@@ -133,7 +144,7 @@ fn written(m: ChannelMask, v: Rgba, kept: Words) -> Words
 
 // Whether the layer writes a pixel: it lies on the source, or overlay is on.
 fn writing(p: Plan, spot: Spot) -> bool
-    ensures { λ r. ⌜ r ≡ writes p spot ⌝ }
+    ensures { λ r. ⌜ r ≡ writesBy p spot ⌝ }
 {
     match spot {
         Spot::At(_) => true,

@@ -5,7 +5,7 @@ ghost use lib.ListN.{length};
 ghost use Rattle.places.specs.Bounds.{slack};
 ghost use Rattle.pictures.specs.Widen.{rgbaAt, valuesOf};
 ghost use Rattle.pictures.specs.FlatWords.{filled};
-ghost use Rattle.compose.specs.Compose.{composedBy};
+ghost use Rattle.compose.specs.Plans.{composedBy};
 ghost use Rattle.compose.specs.Ready.{Ready, Run};
 use crate::Plan;
 use crate::cell::composed;

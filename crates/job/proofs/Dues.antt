@@ -13,8 +13,9 @@ use Rattle.layers.specs.GoodLayers.{GoodLayer}
 use Rattle.layers.proofs.Accepted.{measured}
 use Rattle.pictures.specs.declared.Words.{Words}
 use Rattle.compose.specs.declared.Plan.{Plan}
-use Rattle.compose.specs.Compose.{planOf, sourceOf}
-use Rattle.compose.specs.Ready.{Ready}
+use Rattle.compose.specs.Compose.{sourceOf}
+use Rattle.compose.specs.Plans.{planOf}
+use Rattle.compose.specs.Ready.{Ready, Planned}
 use Rattle.job.specs.Memory.{Mem, workOf, positionOf}
 use Rattle.job.specs.Call.{Setting, area, pixelOf, runOf}
 use Rattle.job.specs.Steps.{stretchOf, phasePixel, Whole, Raised, Decodable, Sized, Stretch, Due, StretchAhead}
@@ -45,20 +46,13 @@ plan-whole s m l p source z ep r =
 -- ---- a stretch
 
 module _ (s : Setting) (k from count rest turn : ℕ) (m : Mem) (l : Layer) (p : Plan) (source : List ℕ) (h : Stretch s k from count rest turn m)
-    (el : l ≡ layerAt (s .table) (s .args) (k - 1)) (ep : p ≡ planOf l (s .width) (s .height)) (es : source ≡ sourceOf (s .samples) (l .source)) where
+    (el : l ≡ layerAt (s .table) (s .args) (k - 1)) (ep : Planned l (s .width) (s .height) p) (es : source ≡ sourceOf (s .samples) (l .source)) where
   abbrev f : ℕ → Words
   f = phasePixel (s .dst) (s .channels) p source (workOf (k - 1) m) k
 
-  abbrev by : Plan → List ℕ → ℕ → Words
-  by q src x = phasePixel (s .dst) (s .channels) q src (workOf (k - 1) m) k x
-
   -- the layer, decoded, gives the phase's pixels
   right : (x : ℕ) → f x ≡ pixelOf s m k x
-  right x =
-      ap (λ (q : Plan). by q source x) ep
-      ∙ ap (λ (src : List ℕ). by (planOf l (s .width) (s .height)) src x) es
-      ∙ ap (λ (y : Layer). by (planOf y (s .width) (s .height)) (sourceOf (s .samples) (y .source)) x) el
-      ∙ phase-pixel s m k x
+  right x = phase-pixel s m k x l p source el ep es
 
   -- what its phase leaves is a run of the call's writes
   done : (n c : ℕ) → from + n ≤ area s → (0 < c → from + n < area s) → c ≤ 5 → stretchOf k f from n c m ≡ runOf s (5 * positionOf m) (5 * n + c) m
@@ -88,7 +82,7 @@ module _ (s : Setting) (k from count rest turn : ℕ) (m : Mem) (l : Layer) (p :
       × Raised k from count turn m
       × StretchAhead k f from (5 * count + rest) m
   unfolding planOf
-  phase-asks r = (plan-whole s m l p source (h .sized) ep r, rw ep (h .inside), h .few, rw ep (h .room), raised, ahead)
+  phase-asks r = (plan-whole s m l p source (h .sized) (ep .made) r, rw (ep .made) (h .inside), h .few, rw (ep .made) (h .room), raised, ahead)
 
   -- what it leaves
   pub stretch-done : (m′ : Mem) (turn′ : ℕ) → (m′ ≡ stretchOf k f from count rest m) × (turn′ ≡ rest) → (m′ ≡ runOf s (5 * positionOf m) (5 * count + rest) m) × (positionOf m′ ≡ positionOf m + count) × (turn′ ≡ rest)

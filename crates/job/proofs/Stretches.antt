@@ -14,7 +14,10 @@ use Rattle.pictures.specs.declared.Words.{Words}
 use Rattle.pictures.specs.Widen.{rgbaAt, valuesOf}
 use Rattle.pictures.specs.FlatWords.{filled}
 use Rattle.compose.specs.declared.Plan.{Plan}
-use Rattle.compose.specs.Compose.{planOf, sourceOf, composedBy}
+use Rattle.compose.specs.Compose.{sourceOf, composedAt}
+use Rattle.compose.specs.Plans.{composedBy}
+use Rattle.compose.specs.Ready.{Planned}
+use Rattle.layers.specs.declared.Layer.{Layer}
 use Rattle.job.specs.Memory.{Mem, stored, workIn, workOf, positionOf}
 use Rattle.job.specs.Call.{Setting, area, pixelOf, runOf}
 use Rattle.job.specs.Steps.{someOf, pixelsOf, stretchOf, phasePixel, Whole, Raised, Room, PixelAhead, StretchAhead}
@@ -177,14 +180,15 @@ module _ (dst : List ℕ) (channels : ℕ) (p : Plan) (source : List ℕ) where
       ap (λ (t : Bool). filled (λ x. composedBy p source (λ y. valuesOf (rgbaAt (cond t work0 work1) 4 y)) (rgbaAt (cond t work0 work1) 4 (from + x)) (from + x)) n out) (sym e)
 
 -- the layer of phase k, decoded, gives the phase's pixel
-pub phase-pixel : (s : Setting) (m : Mem) (k j : ℕ)
-    → phasePixel (s .dst) (s .channels) (planOf (layerAt (s .table) (s .args) (k - 1)) (s .width) (s .height)) (sourceOf (s .samples) (layerAt (s .table) (s .args) (k - 1) .source)) (workOf (k - 1) m) k j
-    ≡ pixelOf s m k j
+pub phase-pixel : (s : Setting) (m : Mem) (k j : ℕ) (l : Layer) (p : Plan) (source : List ℕ) → l ≡ layerAt (s .table) (s .args) (k - 1) → Planned l (s .width) (s .height) p → source ≡ sourceOf (s .samples) (l .source)
+    → phasePixel (s .dst) (s .channels) p source (workOf (k - 1) m) k j ≡ pixelOf s m k j
 unfolding phasePixel pixelOf
-phase-pixel s m zero j = refl
-phase-pixel s m (suc k) j =
+phase-pixel s m zero j l p source el ep es = refl
+phase-pixel s m (suc k) j l p source el ep es =
     let e : suc k - 1 ≡ k = omega arith in
-    ap (λ (x : ℕ). composedBy (planOf (layerAt (s .table) (s .args) x) (s .width) (s .height)) (sourceOf (s .samples) (layerAt (s .table) (s .args) x .source)) (λ y. valuesOf (rgbaAt (workOf x m) 4 y)) (rgbaAt (workOf x m) 4 j) j) e
+    rw es (ep .composes (s .samples) (rgbaAt (workOf (suc k - 1) m) 4) j)
+    ∙ ap (λ (y : Layer). composedAt (s .samples) y (s .width) (s .height) (rgbaAt (workOf (suc k - 1) m) 4) j) el
+    ∙ ap (λ (x : ℕ). composedAt (s .samples) (layerAt (s .table) (s .args) x) (s .width) (s .height) (rgbaAt (workOf x m) 4) j) e
 
 -- ---- the buffer
 

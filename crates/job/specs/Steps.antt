@@ -9,7 +9,7 @@ use Rattle.layers.specs.Limits.{columns, argWords}
 use Rattle.pictures.specs.declared.Words.{Words}
 use Rattle.pictures.specs.Widen.{rgbaAt, valuesOf}
 use Rattle.compose.specs.declared.Plan.{Plan}
-use Rattle.compose.specs.Compose.{composedBy}
+use Rattle.compose.specs.Plans.{composedBy}
 use Rattle.compose.specs.Ready.{Ready}
 use Rattle.job.specs.declared.Write.the-variants.{Checkpoint}
 use Rattle.job.specs.Memory.{Mem, positionOf, stored, fiveWrites}

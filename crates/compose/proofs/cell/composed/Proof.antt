@@ -2,13 +2,13 @@
 use mathlib.Core.Path.{_≡_, _∙_}
 use Rattle.float_steps.proofs.Choice.{yes, no}
 use Rattle.compose.proofs.Pixels.{reached, spot-held}
-use Rattle.compose.specs.Compose.{spotOn, composedBy}
+use Rattle.compose.specs.Plans.{spotBy, composedBy}
 use borrow.Author.Needs.{needs}
 use Rattle.compose.proofs.cell.composed.Statement.{statement}
 use Rattle.compose.proofs.cell.composed.Tie as tie
 
 -- the spot is that of pixel j
-spot : (c : tie.After-source-index) → let s = c .before .before .before in c .source-index .result ≡ spotOn (s .args .p) (s .args .j)
+spot : (c : tie.After-source-index) → let s = c .before .before .before in c .source-index .result ≡ spotBy (s .args .p) (s .args .j)
 spot c = let s = c .before .before .before in c .source-index .ensures ∙ rw (s .pre .2, s .pre .3)
 
 source-index-requires : tie.Need-source-index-requires

@@ -2,7 +2,7 @@
 use Rattle.float_steps.proofs.Choice.{yes, no}
 use lib.Dec.{le→leb}
 use lib.Ieee.{inFloat}
-use Rattle.compose.specs.Compose.{mapCoordinate}
+use Rattle.compose.specs.Plans.{mapCoordinate}
 use Rattle.compose.proofs.cell.map_coordinate.Statement.{statement}
 use Rattle.compose.proofs.cell.map_coordinate.Tie as tie
 

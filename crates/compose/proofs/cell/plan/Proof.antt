@@ -1,7 +1,7 @@
 -- `compose::cell::plan` meets its contract: each part is what its call gave. Assumes nothing.
 use native.Mathlib.Omega.{arith}
 use Rattle.places.proofs.Signed.{back}
-use Rattle.compose.specs.Compose.{planOf}
+use Rattle.compose.specs.Plans.{planOf}
 use Rattle.compose.proofs.Placed.{planned}
 use borrow.Author.Needs.{needs}
 use Rattle.compose.proofs.cell.plan.Statement.{statement}
@@ -15,7 +15,7 @@ returns c =
     rw (
       c .before .placement .ensures,
       c .before .before .before .before .is .ensures,
-      c .before .before .before .before .before .is-map .ensures,
+      c .before .before .before .before .before .reads-through .ensures,
       c .before .before .before .before .before .before .params .ensures,
       back {z = s .args .l .right} (omega (arith, s .pre .0 .offset-right)),
       back {z = s .args .l .down} (omega (arith, s .pre .0 .offset-down)),

@@ -1,17 +1,17 @@
 -- `compose::cell::result` meets its contract. Assumes nothing.
 use mathlib.Core.Path.{_∙_}
 use Rattle.float_steps.proofs.Choice.{yes, no}
-use Rattle.compose.specs.Compose.{resultOf}
+use Rattle.compose.specs.Plans.{resultBy}
 use borrow.Author.Needs.{needs}
 use Rattle.compose.proofs.cell.result.Statement.{statement}
 use Rattle.compose.proofs.cell.result.Tie as tie
 
 returns : tie.Need-returns
-unfolding resultOf
+unfolding resultBy
 returns c = c .map-pixel .ensures ∙ yes _ _ (c .before .if1 .taken)
 
 returns-2 : tie.Need-returns-2
-unfolding resultOf
+unfolding resultBy
 returns-2 c = c .pixel .ensures ∙ no _ _ (c .before .if1 .left)
 
 pub result-spec : {M : Type 1} → statement M

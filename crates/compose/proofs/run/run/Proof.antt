@@ -9,7 +9,7 @@ use lib.ListN.{length}
 use Rattle.pictures.specs.Widen.{rgbaAt, valuesOf}
 use Rattle.pictures.specs.FlatWords.{flat, filled, putOf}
 use Rattle.pictures.proofs.FlatWords.{filled-more}
-use Rattle.compose.specs.Compose.{composedBy}
+use Rattle.compose.specs.Plans.{composedBy}
 use Rattle.compose.proofs.Pixels.{some-width, column-below, row-below, column-next, row-next, at-run, run-small}
 use Rattle.compose.proofs.run.run.Statement.{statement}
 use Rattle.compose.proofs.run.run.Tie as tie

@@ -2,7 +2,7 @@
 use mathlib.Core.Path.{_∙_}
 use Prim.Native.Nat.{_+_}
 use Rattle.pictures.specs.Widen.{rgbaAt, valuesOf}
-use Rattle.compose.specs.Compose.{composedBy}
+use Rattle.compose.specs.Plans.{composedBy}
 use Rattle.compose.proofs.Parts.{over-part}
 use borrow.Author.Needs.{needs}
 use Rattle.compose.proofs.run.span.Statement.{statement}

@@ -3,7 +3,7 @@ use mathlib.Core.Path.{_∙_}
 use Prim.Native.Nat.{_+_}
 use native.Mathlib.Omega.{arith}
 use Rattle.pictures.specs.Widen.{rgbaAt, valuesOf}
-use Rattle.compose.specs.Compose.{composedBy}
+use Rattle.compose.specs.Plans.{composedBy}
 use Rattle.compose.proofs.Parts.{over-own}
 use Rattle.compose.proofs.Pixels.{run-words}
 use borrow.Author.Needs.{needs}

@@ -9,7 +9,7 @@ use borrow.Author.Needs.{needs}
 use lib.ListN.{length, length-take, length-drop}
 use Rattle.pictures.specs.Widen.{rgbaAt, valuesOf}
 use Rattle.pictures.specs.FlatWords.{flat, filled}
-use Rattle.compose.specs.Compose.{composedBy}
+use Rattle.compose.specs.Plans.{composedBy}
 use Rattle.compose.proofs.Pixels.{run-part, run-small}
 use Rattle.compose.proofs.single.chunks.Statement.{statement}
 use Rattle.compose.proofs.single.chunks.Tie as tie

@@ -1,7 +1,6 @@
 -- `compose::single::whole` meets its contract: the part that is lent is the source, and the plan is the layer's. Assumes nothing.
-use mathlib.Core.Path.{_∙_}
 use native.Mathlib.Omega.{arith}
-use Rattle.compose.proofs.Placed.{plane, runs}
+use Rattle.compose.proofs.Placed.{plane, picture, runs}
 use Rattle.layers.proofs.Accepted.{measured}
 use Rattle.layers.proofs.Ranges.{channels-least, channels-most}
 use borrow.Author.Needs.{needs}
@@ -22,15 +21,15 @@ chunks-requires : tie.Need-chunks-requires
 chunks-requires c κs =
     let p = c .before .before in
     let s = p .before .before .before .before in (
-      rw (c .before .source-of .ensures .1) (p .plan .ensures .1),
-      runs (s .args .l) (s .args .dw) (s .args .dh) (p .plan .result) _ _ (p .plan .ensures .0) (s .pre .1),
+      rw (c .before .source-of .ensures .1) (p .plan .ensures .ready),
+      runs (s .args .l) (s .args .dw) (s .args .dh) (p .plan .result) _ _ (p .plan .ensures .made) (s .pre .1),
       s .pre .2,
     )
 
 returns : tie.Need-returns
 returns c =
     let k = c .before .before in
-    k .chunks .ensures ∙ rw (k .before .before .source-of .ensures .0, k .before .before .before .plan .ensures .0)
+    picture _ _ _ _ _ _ _ _ _ (k .before .before .before .plan .ensures) (k .before .before .source-of .ensures .0) (k .chunks .ensures)
 
 pub whole-spec : {M : Type 1} → statement M
 whole-spec =

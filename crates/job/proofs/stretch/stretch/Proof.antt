@@ -40,14 +40,14 @@ phase-requires : tie.Need-phase-requires
 phase-requires c κs =
     let s = (c .before .before .before .before .before .before .before .before .before .before .before .before .before .before) in
     phase-asks (job s) (s .args .k) (s .args .from) (s .args .count) (s .args .rest) (s .args .turn .now) (memory s) (c .before .before .before .before .before .before .at .result) (c .before .before .before .before .before .plan .result) _
-    (s .pre) (layer (c .before .before .before .before .before .before)) (c .before .before .before .before .before .plan .ensures .0) (c .before .before .before .before .source-of .ensures .0)
-    (subst⁻¹ (Ready (c .before .before .before .before .before .plan .result)) (c .before .before .before .before .source-of .ensures .1) (c .before .before .before .before .before .plan .ensures .1))
+    (s .pre) (layer (c .before .before .before .before .before .before)) (c .before .before .before .before .before .plan .ensures) (c .before .before .before .before .source-of .ensures .0)
+    (subst⁻¹ (Ready (c .before .before .before .before .before .plan .result)) (c .before .before .before .before .source-of .ensures .1) (c .before .before .before .before .before .plan .ensures .ready))
 
 returns : tie.Need-returns
 returns c =
     let s = (c .before .before .before .before .before .before .before .before .before .before .before .before .before .before .before .before .before .before .before .before .before) in
     stretch-done (job s) (s .args .k) (s .args .from) (s .args .count) (s .args .rest) (s .args .turn .now) (memory s) (c .before .before .before .before .before .before .before .before .before .before .before .before .before .at .result) (c .before .before .before .before .before .before .before .before .before .before .before .before .plan .result) _
-    (s .pre) (layer (c .before .before .before .before .before .before .before .before .before .before .before .before .before)) (c .before .before .before .before .before .before .before .before .before .before .before .before .plan .ensures .0) (c .before .before .before .before .before .before .before .before .before .before .before .source-of .ensures .0) _ _ (c .before .before .before .before .before .before .phase .ensures)
+    (s .pre) (layer (c .before .before .before .before .before .before .before .before .before .before .before .before .before)) (c .before .before .before .before .before .before .before .before .before .before .before .before .plan .ensures) (c .before .before .before .before .before .before .before .before .before .before .before .source-of .ensures .0) _ _ (c .before .before .before .before .before .before .phase .ensures)
 
 pub stretch-spec : {M : Type 1} → statement M
 stretch-spec =
