@@ -59,10 +59,10 @@ pub fn color_burn(s: f32, d: f32) -> f32
     ensures { λ r. ⌜ r ≡ colorBurnOf s d ⌝ }
 {
     if s <= 0.0 {
-        return 0.0;
+        return 0.0; // black, over white too
     }
-    if d >= 1.0 {
-        return 1.0;
+    if 1.0 <= d {
+        return 1.0; // white
     }
     1.0 - order::smaller((1.0 - d) / s, 1.0)
 }
