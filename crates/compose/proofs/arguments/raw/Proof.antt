@@ -1,6 +1,5 @@
 -- `compose::arguments::raw` meets its contract. Assumes nothing.
-use mathlib.Core.Path.{_∙_}
-use Rattle.float_steps.proofs.Choice.{yes, no}
+use Rattle.float_steps.proofs.Choice.{no}
 use borrow.Author.Tests.{lt-ltb, le-ltb}
 use Rattle.compose.specs.Arguments.{rawBy}
 use borrow.Author.Needs.{needs}
@@ -9,7 +8,7 @@ use Rattle.compose.proofs.arguments.raw.Tie as tie
 
 returns : tie.Need-returns
 unfolding rawBy
-returns c = c .value .ensures ∙ yes _ _ (lt-ltb _ _ (c .before .if1 .taken))
+returns c = rw (lt-ltb _ _ (c .before .if1 .taken)) (search needs)
 
 returns-2 : tie.Need-returns-2
 unfolding rawBy
