@@ -1,25 +1,43 @@
 -- `layers::Layer::fault` meets its contract: the definition's checks are what the calls answered. Assumes nothing.
 use mathlib.Core.Path.{_≡_}
-use mathlib.Core.List.{[], _∷_}
+use mathlib.Core.List.{List, [], _∷_}
+use Prim.Native.Nat.{ℕ}
+use lib.IntN.{pos}
 use borrow.Author.Needs.{needs}
 use borrow.Author.Tests.{ne-eqb}
 use Rattle.faults.specs.Faults.{PLACING, FLAGS, SOURCE, ARGUMENTS}
+use Rattle.layers.specs.Cells.{cellOf, outsideZ}
 use Rattle.layers.specs.Faults.{firstOf, faultIf, layerFault}
+use Rattle.layers.specs.Limits.{argWords, atCount}
 use Rattle.layers.proofs.Layer.fault.Statement.{statement}
 use Rattle.layers.proofs.Layer.fault.Tie as tie
 
 abbrev start : tie.After-outside-at2 → tie.Start
 start c = c .before .before .before .before .before
 
--- what the calls answered
-checked : (c : tie.After-outside-at2) → layerFault (start c .args .table .now) (start c .args .samples) (start c .args .k) ≡ firstOf (c .before .before .before .before .operator-fault .result ∷ faultIf (c .before .before .before .bad-placing .result) PLACING ∷ faultIf (c .before .before .outside-at .result) FLAGS ∷ faultIf (c .before .bad-source .result) SOURCE ∷ faultIf (c .outside-at2 .result) ARGUMENTS ∷ [])
+-- the last test, as the call answers it
+arguments : (c : tie.After-outside-at2)
+    → c .outside-at2 .result ≡ outsideZ (pos 0) (pos argWords) (cellOf (start c .args .table .now) (start c .args .k) atCount)
+arguments c = c .outside-at2 .ensures
+
+-- what the calls answered, in the order of the checks
+abbrev answers : tie.After-outside-at2 → List ℕ
+answers c =
+    c .before .before .before .before .operator-fault .result
+    ∷ faultIf (c .before .before .before .bad-placing .result) PLACING
+    ∷ faultIf (c .before .before .outside-at .result) FLAGS
+    ∷ faultIf (c .before .bad-source .result) SOURCE
+    ∷ faultIf (c .outside-at2 .result) ARGUMENTS
+    ∷ []
+
+checked : (c : tie.After-outside-at2) → layerFault (start c .args .table .now) (start c .args .samples) (start c .args .k) ≡ firstOf (answers c)
 unfolding layerFault
 checked c = rw (
   ← c .before .before .before .before .operator-fault .ensures,
   ← c .before .before .before .bad-placing .ensures,
   ← c .before .before .outside-at .ensures,
   ← c .before .bad-source .ensures,
-  ← c .outside-at2 .ensures,
+  ← arguments c,
 )
 
 returns : tie.Need-returns
