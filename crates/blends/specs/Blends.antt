@@ -2,7 +2,8 @@
 -- channel of the source, d that of the destination. One rounding an operation, in the Rust's order. Definitions only.
 use mathlib.Core.Bool.{cond}
 use lib.Ieee.{Float, lt, le}
-use Rattle.float_steps.specs.Notation.{_⊕_, _⊖_, _⊗_, _⊘_, lit, f0, f1, f2, half}
+use Rattle.float_steps.specs.Notation.{_⊕_, _⊖_, _⊗_, _⊘_, f0, f1, f2, half}
+use Rattle.float_steps.specs.Literals.{f4, f12, f16, quarter}
 use Rattle.float_steps.specs.Order.{smallerOf, largerOf, unitOf}
 use Rattle.float_steps.specs.Root.{sqrtOf}
 
@@ -12,9 +13,9 @@ use Rattle.float_steps.specs.Root.{sqrtOf}
 unfoldable pub hardLightOf : Float → Float → Float
 hardLightOf s d = cond (lt s half) (f2 ⊗ s ⊗ d) (let s2 = f2 ⊗ s ⊖ f1 in s2 ⊕ d ⊖ s2 ⊗ d)
 
--- `dd` (composite.rs 1049 to 1053) of soft_light: 16, 12 and 4 as literals
+-- `dd` (composite.rs 1049 to 1053) of soft_light
 unfoldable pub curveOf : Float → Float
-curveOf d = cond (le d (lit 0x3e80_0000)) (((lit 0x4180_0000 ⊗ d ⊖ lit 0x4140_0000) ⊗ d ⊕ lit 0x4080_0000) ⊗ d) (sqrtOf d)
+curveOf d = cond (le d quarter) (((f16 ⊗ d ⊖ f12) ⊗ d ⊕ f4) ⊗ d) (sqrtOf d)
 
 -- `soft_light` (composite.rs 1045 to 1056)
 unfoldable pub softLightOf : Float → Float → Float

@@ -2,7 +2,8 @@
 -- hue, saturation and lightness, or red, green and blue. Definitions only.
 use mathlib.Core.Bool.{cond}
 use lib.Ieee.{Float, lt, le, eq}
-use Rattle.float_steps.specs.Notation.{_⊕_, _⊖_, _⊗_, _⊘_, lit, f0, f1, f2, half}
+use Rattle.float_steps.specs.Notation.{_⊕_, _⊖_, _⊗_, _⊘_, f0, f1, f2, half}
+use Rattle.float_steps.specs.Literals.{f3, f4, f6, millionth}
 use Rattle.float_steps.specs.Order.{smallerOf, largerOf}
 use Rattle.float_steps.specs.Remainder.{remEuclidOf}
 use Rattle.blends.specs.declared.Hsl.{Hsl}
@@ -18,19 +19,19 @@ rgbOf r g b = record { r = r; g = g; b = b }
 unfoldable pub saturationOf : Float → Float → Float → Float → Float
 saturationOf max min l d = cond (lt half l) (d ⊘ (f2 ⊖ max ⊖ min)) (d ⊘ (max ⊕ min))
 
--- `h` (composite.rs 1103 to 1109): 6 and 4 as literals
+-- `h` (composite.rs 1103 to 1109)
 unfoldable pub hueOf : Float → Float → Float → Float → Float → Float
 hueOf r g b max d =
-    cond (eq max r) (remEuclidOf ((g ⊖ b) ⊘ d) (lit 0x40c0_0000))
+    cond (eq max r) (remEuclidOf ((g ⊖ b) ⊘ d) f6)
     (cond (eq max g) ((b ⊖ r) ⊘ d ⊕ f2)
-    ((r ⊖ g) ⊘ d ⊕ lit 0x4080_0000))
+    ((r ⊖ g) ⊘ d ⊕ f4))
 
--- 1e-6 is 358637BD
+-- `rgb_to_hsl` (composite.rs 1090 to 1111) of the largest and the smallest channel
 unfoldable pub hslBy : Float → Float → Float → Float → Float → Hsl
 hslBy r g b max min =
     let l = (max ⊕ min) ⊗ half in
     let d = max ⊖ min in
-    cond (le d (lit 0x3586_37bd)) (hslOf f0 f0 l) (hslOf (hueOf r g b max d ⊘ lit 0x40c0_0000) (saturationOf max min l d) l)
+    cond (le d millionth) (hslOf f0 f0 l) (hslOf (hueOf r g b max d ⊘ f6) (saturationOf max min l d) l)
 
 abbrev pub rgbToHslOf : Float → Float → Float → Hsl
 rgbToHslOf r g b = hslBy r g b (largerOf (largerOf r g) b) (smallerOf (smallerOf r g) b)
@@ -42,17 +43,17 @@ upperOf s l = cond (lt l half) (l ⊗ (f1 ⊕ s)) (l ⊕ s ⊖ l ⊗ s)
 -- the closure `f` (composite.rs 1123 to 1134), after its remainder
 unfoldable pub rampOf : Float → Float → Float → Float
 rampOf p q t =
-    cond (lt t (f1 ⊘ lit 0x40c0_0000)) (p ⊕ (q ⊖ p) ⊗ lit 0x40c0_0000 ⊗ t)
+    cond (lt t (f1 ⊘ f6)) (p ⊕ (q ⊖ p) ⊗ f6 ⊗ t)
     (cond (lt t half) q
-    (cond (lt t (f2 ⊘ lit 0x4040_0000)) (p ⊕ (q ⊖ p) ⊗ (f2 ⊘ lit 0x4040_0000 ⊖ t) ⊗ lit 0x40c0_0000)
+    (cond (lt t (f2 ⊘ f3)) (p ⊕ (q ⊖ p) ⊗ (f2 ⊘ f3 ⊖ t) ⊗ f6)
     p))
 
 abbrev pub channelAt : Float → Float → Float → Float
 channelAt p q h = rampOf p q (remEuclidOf h f1)
 
--- a third is 1 / 3, rounded
+-- 1.0 / 3.0
 abbrev pub third : Float
-third = f1 ⊘ lit 0x4040_0000
+third = f1 ⊘ f3
 
 unfoldable pub rgbBy : Hsl → Float → Float → Rgb
 rgbBy c p q = rgbOf (channelAt p q (c .h ⊕ third)) (channelAt p q (c .h)) (channelAt p q (c .h ⊖ third))

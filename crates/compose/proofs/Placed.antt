@@ -28,7 +28,8 @@ pub plane : (w h : ℕ) → w ≤ slack → h ≤ slack → w * h ≤ slack * sl
 plane w h a b = mul-le-mul a b
 
 -- two maps, chosen by whether it is one of them and then which, or by one test after the other
-chosen : (a b : Bool) (f : Float → Float → Rgba) (x y x′ y′ : Float) (r : Rgba) → cond (a || b) (f (cond a x x′) (cond a y y′)) r ≡ cond a (f x y) (cond b (f x′ y′) r)
+chosen : (a b : Bool) (f : Float → Float → Rgba) (x y x′ y′ : Float) (r : Rgba)
+    → cond (a || b) (f (cond a x x′) (cond a y y′)) r ≡ cond a (f x y) (cond b (f x′ y′) r)
 chosen true b f x y x′ y′ r = refl
 chosen false true f x y x′ y′ r = refl
 chosen false false f x y x′ y′ r = refl
@@ -38,7 +39,8 @@ module _ (l : Layer) (dw dh : ℕ) where
   unfolding planOf mapCoordinate resultBy resultOf
   result beneath s d j = chosen (same (l .op) O.Displace) (same (l .op) O.Distort) (bilinearOf beneath dw dh) _ _ _ _ _
 
-  composes : (samples : List ℕ) (beneath : ℕ → Words) (j : ℕ) → composedBy (planOf l dw dh) (sourceOf samples (l .source)) (λ i. valuesOf (beneath i)) (beneath j) j ≡ composedAt samples l dw dh beneath j
+  composes : (samples : List ℕ) (beneath : ℕ → Words) (j : ℕ)
+      → composedBy (planOf l dw dh) (sourceOf samples (l .source)) (λ i. valuesOf (beneath i)) (beneath j) j ≡ composedAt samples l dw dh beneath j
   unfolding planOf writes composedBy composedAt
   composes samples beneath j = ap (λ (r : Rgba). cond (writes l dw dh j) (writtenOf (l .mask) r (beneath j)) (beneath j)) (result _ _ _ j)
 

@@ -7,7 +7,8 @@ use Prim.Native.Nat.{ℕ}
 use lib.Dec.{ltb}
 use lib.ListN.{getD}
 use lib.Ieee.{Float}
-use Rattle.float_steps.specs.Notation.{_⊖_, _⊗_, _⊘_, lit, f0, f1}
+use Rattle.float_steps.specs.Notation.{_⊖_, _⊗_, _⊘_, f0, f1}
+use Rattle.float_steps.specs.Literals.{f20, f50, f100, twentieth}
 use Rattle.float_steps.specs.Order.{finiteOf}
 use Rattle.float_steps.specs.Words.{valueOf}
 use Rattle.operators.specs.Operators.{same, isMap}
@@ -39,20 +40,16 @@ rawArg args i = rawBy (args .count) i (valueAt args i)
 abbrev pub pair : Float → Float → Params
 pair a b = record { a = a; b = b; c = f0; d = f0 }
 
--- 100.0
-abbrev pub hundred : Float
-hundred = lit 0x42c8_0000
-
 -- ---- what an operator asks for
 
 -- `Blend` (composite.rs 707 to 716): 50 %, and what a leaves of 100 %
 abbrev pub blendParams : Args → Params
 blendParams args =
-    let a = argOr args 0 (lit 0x4248_0000) ⊘ hundred in pair a (argOr args 1 (hundred ⊖ a ⊗ hundred) ⊘ hundred)
+    let a = argOr args 0 f50 ⊘ f100 in pair a (argOr args 1 (f100 ⊖ a ⊗ f100) ⊘ f100)
 
 -- `Dissolve` (composite.rs 717 to 724): 50 % and 100 %
 abbrev pub dissolveParams : Args → Params
-dissolveParams args = pair (argOr args 0 (lit 0x4248_0000) ⊘ hundred) (argOr args 1 hundred ⊘ hundred)
+dissolveParams args = pair (argOr args 0 f50 ⊘ f100) (argOr args 1 f100 ⊘ f100)
 
 -- `ChangeMask` (composite.rs 778 to 782): the fuzz, 0
 abbrev pub maskParams : Args → Params
@@ -60,15 +57,16 @@ maskParams args = pair (argOr args 0 f0) f0
 
 -- `Threshold` (composite.rs 787 to 798): 0.05 and 1
 abbrev pub thresholdParams : Args → Params
-thresholdParams args = pair (argOr args 0 (lit 0x3d4c_cccd)) (argOr args 1 f1)
+thresholdParams args = pair (argOr args 0 twentieth) (argOr args 1 f1)
 
 -- `Modulate` (composite.rs 799 to 811): 100 % twice
 abbrev pub modulateParams : Args → Params
-modulateParams args = pair (argOr args 0 hundred ⊘ hundred) (argOr args 1 hundred ⊘ hundred)
+modulateParams args = pair (argOr args 0 f100 ⊘ f100) (argOr args 1 f100 ⊘ f100)
 
--- the maps, `MapContext::new` (composite.rs 1147 to 1152): X, 20, and Y, which is X unless it is given
+-- the maps, `MapContext::new` (composite.rs 1147 to 1152): X, 20, and Y, which is X unless it is given. Blur, whose X is
+-- another, is refused and never gets here.
 abbrev pub mapParams : Args → Params
-mapParams args = let x = argOr args 0 (lit 0x41a0_0000) in pair x (argOr args 1 x)
+mapParams args = let x = argOr args 0 f20 in pair x (argOr args 1 x)
 
 -- `Mathematics` (composite.rs 1025 to 1028)
 abbrev pub rawParams : Args → Params

@@ -84,7 +84,8 @@ writtenWord on v kept = cond on (wordOf v) kept
 
 unfoldable pub writtenOf : ChannelMask → Rgba → Words → Words
 writtenOf m v kept =
-    wordsOf (writtenWord (m .red) (v .r) (kept .r)) (writtenWord (m .green) (v .g) (kept .g)) (writtenWord (m .blue) (v .b) (kept .b)) (writtenWord (m .alpha) (v .a) (kept .a))
+    wordsOf (writtenWord (m .red) (v .r) (kept .r)) (writtenWord (m .green) (v .g) (kept .g))
+    (writtenWord (m .blue) (v .b) (kept .b)) (writtenWord (m .alpha) (v .a) (kept .a))
 
 -- Pixel j of a layer on the picture beneath, whose pixel i is `beneath i`.
 unfoldable pub composedAt : List ℕ → Layer → (dw dh : ℕ) → (ℕ → Words) → (j : ℕ) → Words

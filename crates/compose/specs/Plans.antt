@@ -1,5 +1,5 @@
--- A layer's plan, which the code works out once a layer (`Plan`, src/lib.rt), and a pixel computed from it. What the layer asks for is said in Compose; that the plan gives
--- just that is part of the contract of `plan` (`Planned`, Ready). Definitions only.
+-- A layer's plan, which the code works out once a layer, and a pixel computed from it. Compose says what the layer asks for; that the plan gives the same
+-- is part of the contract of `plan` (`Planned`, Ready). Definitions only.
 use mathlib.Core.Bool.{Bool, cond, _||_}
 use mathlib.Core.List.{List}
 use Prim.Native.Nat.{ℕ, _/_, _%_}

@@ -26,7 +26,8 @@ pub record Ready (p : Plan) (source : ℕ) : Type 0 where
 pub record Planned (l : Layer) (dw dh : ℕ) (p : Plan) : Type 0 where
   pub made : p ≡ planOf l dw dh
   pub ready : Ready p (l .source .width * l .source .height * l .source .channels)
-  pub composes : (samples : List ℕ) (beneath : ℕ → Words) (j : ℕ) → composedBy p (sourceOf samples (l .source)) (λ i. valuesOf (beneath i)) (beneath j) j ≡ composedAt samples l dw dh beneath j
+  pub composes : (samples : List ℕ) (beneath : ℕ → Words) (j : ℕ)
+      → composedBy p (sourceOf samples (l .source)) (λ i. valuesOf (beneath i)) (beneath j) j ≡ composedAt samples l dw dh beneath j
 
 -- pixel j of the picture beneath, whose words are so many, of so many channels
 pub record Beneath (p : Plan) (words channels j : ℕ) : Type 0 where

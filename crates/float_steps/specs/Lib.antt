@@ -1,5 +1,6 @@
 -- The float steps, in the order of document 01's section "Float steps".
 pub mod Notation
+pub mod Literals
 pub mod Order
 pub mod Remainder
 pub mod Root

@@ -3,7 +3,8 @@
 use Prim.Native.Nat.{ℕ, _+_, _*_, _/_, min}
 use mathlib.Core.Bool.{cond}
 use lib.Ieee.{Float, nan, inf, fin, up, down}
-use Rattle.float_steps.specs.Notation.{_⊗_, lit}
+use Rattle.float_steps.specs.Notation.{_⊗_}
+use Rattle.float_steps.specs.Literals.{f255}
 use Rattle.float_steps.specs.Order.{unitOf}
 
 -- `v.floor() as usize`: the whole part, brought into the range
@@ -21,4 +22,4 @@ roundByteOf (fin s m e) = cond s 0 (min ((2 * (m * up e) + down e) / (2 * down e
 -- the byte of a sample; a NaN is kept by the clamp and gives 0
 unfoldable pub byteOf : Float → ℕ
 unfolding roundByteOf
-byteOf v = roundByteOf (unitOf v ⊗ lit 0x437f_0000)
+byteOf v = roundByteOf (unitOf v ⊗ f255)

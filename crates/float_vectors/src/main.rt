@@ -50,8 +50,14 @@ fn several(step: u64, a: f32, b: f32, c: f32) -> u64 {
     }
 }
 
-// What a coordinate gives: its pixel, the next one, how far along it is.
+// What a coordinate gives: its pixel, the next one, how far along it is. A side that `locate` is not asked for gives a number that no row has.
 fn coordinate(step: u64, x: f32, side: u32) -> u64 {
+    if side < 1 {
+        return 0xffff_ffff_ffff_ffff;
+    }
+    if side > 0x100_0000 {
+        return 0xffff_ffff_ffff_ffff;
+    }
     let found = axis::locate(x, side as usize);
     match step {
         14 => found.at as u64,

@@ -180,7 +180,10 @@ module _ (dst : List ℕ) (channels : ℕ) (p : Plan) (source : List ℕ) where
       ap (λ (t : Bool). filled (λ x. composedBy p source (λ y. valuesOf (rgbaAt (cond t work0 work1) 4 y)) (rgbaAt (cond t work0 work1) 4 (from + x)) (from + x)) n out) (sym e)
 
 -- the layer of phase k, decoded, gives the phase's pixel
-pub phase-pixel : (s : Setting) (m : Mem) (k j : ℕ) (l : Layer) (p : Plan) (source : List ℕ) → l ≡ layerAt (s .table) (s .args) (k - 1) → Planned l (s .width) (s .height) p → source ≡ sourceOf (s .samples) (l .source)
+pub phase-pixel : (s : Setting) (m : Mem) (k j : ℕ) (l : Layer) (p : Plan) (source : List ℕ)
+    → l ≡ layerAt (s .table) (s .args) (k - 1)
+    → Planned l (s .width) (s .height) p
+    → source ≡ sourceOf (s .samples) (l .source)
     → phasePixel (s .dst) (s .channels) p source (workOf (k - 1) m) k j ≡ pixelOf s m k j
 unfolding phasePixel pixelOf
 phase-pixel s m zero j l p source el ep es = refl

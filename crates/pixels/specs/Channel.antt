@@ -5,7 +5,8 @@ use mathlib.Core.Bool.{Bool, cond}
 use lib.Ieee.{Float, lt, le}
 use Rattle.operators.specs.declared.Convention.{Convention}
 use Rattle.operators.specs.declared.Convention.the-variants.{Premult, Divided, OnPremult, PremultOnly}
-use Rattle.float_steps.specs.Notation.{_⊕_, _⊖_, _⊗_, _⊘_, lit, f0, f1}
+use Rattle.float_steps.specs.Notation.{_⊕_, _⊖_, _⊗_, _⊘_, f0, f1}
+use Rattle.float_steps.specs.Literals.{millionth}
 use Rattle.float_steps.specs.Order.{smallerOf, unitOf}
 use Rattle.float_steps.specs.Sign.{absOf}
 
@@ -65,7 +66,7 @@ colouredChannel v d sa da = overUnionOf (v ⊗ sa ⊕ d ⊗ da ⊗ (f1 ⊖ sa)) 
 
 -- `ChangeMask` (composite.rs 778 to 782): within the fuzz and 1e-6
 abbrev pub withinFuzz : Float → Float → Float → Bool
-withinFuzz fuzz s d = le (absOf (s ⊖ d)) (fuzz ⊕ lit 0x3586_37bd)
+withinFuzz fuzz s d = le (absOf (s ⊖ d)) (fuzz ⊕ millionth)
 
 -- `Threshold` (composite.rs 787 to 798)
 unfoldable pub thresholdChannel : Float → Float → Float → Float → Float

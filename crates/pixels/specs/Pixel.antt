@@ -6,7 +6,8 @@ use Rattle.operators.specs.Operators.{convention}
 use Rattle.operators.specs.declared.CompositeOp.{CompositeOp}
 use Rattle.operators.specs.declared.CompositeOp.the-variants as O
 use Rattle.operators.specs.declared.Convention.{Convention}
-use Rattle.float_steps.specs.Notation.{_⊕_, _⊖_, _⊗_, _⊘_, lit, f0, f1, f2, half}
+use Rattle.float_steps.specs.Notation.{_⊕_, _⊖_, _⊗_, _⊘_, f0, f1, f2, half}
+use Rattle.float_steps.specs.Literals.{f3, intensityRed, intensityGreen, intensityBlue}
 use Rattle.float_steps.specs.Order.{smallerOf, unitOf}
 use Rattle.float_steps.specs.Remainder.{wrapOf}
 use Rattle.float_steps.specs.Root.{sqrtOf}
@@ -51,7 +52,7 @@ overOf s d = overBy (s .a ⊕ d .a ⊗ (f1 ⊖ s .a)) s d
 
 -- `intensity` (composite.rs 902 to 904)
 abbrev pub intensityOf : Rgba → Float
-intensityOf p = lit 0x3e59_c27f ⊗ p .r ⊕ lit 0x3f37_1498 ⊗ p .g ⊕ lit 0x3d93_d641 ⊗ p .b
+intensityOf p = intensityRed ⊗ p .r ⊕ intensityGreen ⊗ p .g ⊕ intensityBlue ⊗ p .b
 
 -- ---- the arms that take more than a line
 
@@ -65,7 +66,7 @@ grayOf v a = rgbaOf v v v a
 -- `Rmse` (composite.rs 725 to 728). Its `sum` begins at a zero, which is left out here: a square is never -0, so that a zero of either sign plus the first
 -- square is that square, NaN included.
 abbrev pub rmseOf : Rgba → Rgba → Float
-rmseOf s d = sqrtOf ((squareOf (s .r ⊖ d .r) ⊕ squareOf (s .g ⊖ d .g) ⊕ squareOf (s .b ⊖ d .b)) ⊘ lit 0x4040_0000)
+rmseOf s d = sqrtOf ((squareOf (s .r ⊖ d .r) ⊕ squareOf (s .g ⊖ d .g) ⊕ squareOf (s .b ⊖ d .b)) ⊘ f3)
 
 -- `DarkenIntensity` (composite.rs 729 to 735) and `LightenIntensity` (composite.rs 736 to 742): s where x is darker than y, else d
 unfoldable pub whereDarker : Rgba → Rgba → Rgba → Rgba → Rgba

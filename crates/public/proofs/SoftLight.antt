@@ -13,7 +13,8 @@ use lib.Ieee.Bits.{ofBits-fits}
 use lib.Ieee.Order.{round-mono}
 use lib.Ieee.Scale.{grid}
 use borrow.Author.Tests.{ltb-true, ltb-false}
-use Rattle.float_steps.specs.Notation.{_⊕_, _⊖_, _⊗_, lit, f0, f1, f2, half}
+use Rattle.float_steps.specs.Notation.{_⊕_, _⊖_, _⊗_, f0, f1, f2, half}
+use Rattle.float_steps.specs.Literals.{f3, f4, f12, f16, quarter}
 use Rattle.float_steps.specs.Root.{sqrtOf}
 use Rattle.ieee_laws.specs.Same.{plain, Same}
 use Rattle.ieee_laws.specs.Size.{AtMost, Unsigned, Counts}
@@ -31,22 +32,7 @@ use Rattle.public.proofs.InRange.{unsigned, not-below, in-unit, in-unit
 use Rattle.public.proofs.UnitSteps.{up-to-one, E, M, R, g, Part, part, M-pos, MM-pos, bounded, near-whole, one-counts, times, less, product-of}
 use Rattle.public.proofs.HardLight.{twice-in, rest-in}
 
--- ---- the literals: 1/4, 3, 4, 12 and 16
-abbrev quarter : Float
-quarter = lit 0x3e80_0000
-
-abbrev c3 : Float
-c3 = lit 0x4040_0000
-
-abbrev c4 : Float
-c4 = lit 0x4080_0000
-
-abbrev c12 : Float
-c12 = lit 0x4140_0000
-
-abbrev c16 : Float
-c16 = lit 0x4180_0000
-
+-- ---- the literals
 quarter-counts : Counts binary32 quarter (2 ^ 147)
 unfolding ofBits
 quarter-counts = (refl, refl)
@@ -55,19 +41,19 @@ counts-0 : Counts binary32 f0 0
 unfolding ofBits
 counts-0 = (refl, refl)
 
-counts-3 : Counts binary32 c3 (3 * M)
+counts-3 : Counts binary32 f3 (3 * M)
 unfolding ofBits
 counts-3 = (refl, refl)
 
-counts-4 : Counts binary32 c4 (4 * M)
+counts-4 : Counts binary32 f4 (4 * M)
 unfolding ofBits
 counts-4 = (refl, refl)
 
-counts-12 : Counts binary32 c12 (12 * M)
+counts-12 : Counts binary32 f12 (12 * M)
 unfolding ofBits
 counts-12 = (refl, refl)
 
-counts-16 : Counts binary32 c16 (16 * M)
+counts-16 : Counts binary32 f16 (16 * M)
 unfolding ofBits
 counts-16 = (refl, refl)
 
@@ -102,39 +88,39 @@ difference-has z x u v c a lo hi cz cx o fu cu fv cv h l m =
 
 -- ---- up to a quarter: the polynomial, as (4 - (12 - 16 x) x) x
 module _ (x : Float) (n : ℕ) (p : Part x n) (low : n ≤ 2 ^ 147) where
-  has-16 : Has (c16 ⊗ x) 0 (4 * M)
-  has-16 = product-has c16 x f0 c4 (16 * M) n 0 (4 * M) counts-16 (p .is) zero-fits counts-0 (ofBits-fits binary32 0x4080_0000) counts-4 (lit≤ tt) (le-trans (lit≤ tt) zero-le) (le-trans (mul-le-mul-left (16 * M) low) (lit≤ tt))
+  has-16 : Has (f16 ⊗ x) 0 (4 * M)
+  has-16 = product-has f16 x f0 f4 (16 * M) n 0 (4 * M) counts-16 (p .is) zero-fits counts-0 (ofBits-fits binary32 0x4080_0000) counts-4 (lit≤ tt) (le-trans (lit≤ tt) zero-le) (le-trans (mul-le-mul-left (16 * M) low) (lit≤ tt))
 
-  has-12 : Has (c12 ⊖ c16 ⊗ x) 0 (12 * M)
+  has-12 : Has (f12 ⊖ f16 ⊗ x) 0 (12 * M)
   has-12 =
-      difference-has c12 (c16 ⊗ x) f0 c12 (12 * M) (has-16 .count) 0 (12 * M) counts-12 (has-16 .is) (le-trans (has-16 .most) (lit≤ tt)) zero-fits counts-0 (ofBits-fits binary32 0x4140_0000) counts-12 (le-refl (12 * M)) zero-le
+      difference-has f12 (f16 ⊗ x) f0 f12 (12 * M) (has-16 .count) 0 (12 * M) counts-12 (has-16 .is) (le-trans (has-16 .most) (lit≤ tt)) zero-fits counts-0 (ofBits-fits binary32 0x4140_0000) counts-12 (le-refl (12 * M)) zero-le
       (sub-le (12 * M) (has-16 .count))
 
-  has-3 : Has ((c12 ⊖ c16 ⊗ x) ⊗ x) 0 (3 * M)
+  has-3 : Has ((f12 ⊖ f16 ⊗ x) ⊗ x) 0 (3 * M)
   has-3 =
-      product-has (c12 ⊖ c16 ⊗ x) x f0 c3 (has-12 .count) n 0 (3 * M) (has-12 .is) (p .is) zero-fits counts-0 (ofBits-fits binary32 0x4040_0000) counts-3 (lit≤ tt) (le-trans (lit≤ tt) zero-le)
+      product-has (f12 ⊖ f16 ⊗ x) x f0 f3 (has-12 .count) n 0 (3 * M) (has-12 .is) (p .is) zero-fits counts-0 (ofBits-fits binary32 0x4040_0000) counts-3 (lit≤ tt) (le-trans (lit≤ tt) zero-le)
       (le-trans (mul-le-mul (has-12 .most) low) (lit≤ tt))
 
-  has-4 : Has (c4 ⊖ (c12 ⊖ c16 ⊗ x) ⊗ x) M (4 * M)
+  has-4 : Has (f4 ⊖ (f12 ⊖ f16 ⊗ x) ⊗ x) M (4 * M)
   has-4 =
-      difference-has c4 ((c12 ⊖ c16 ⊗ x) ⊗ x) f1 c4 (4 * M) (has-3 .count) M (4 * M) counts-4 (has-3 .is) (le-trans (has-3 .most) (lit≤ tt)) one-fits one-counts (ofBits-fits binary32 0x4080_0000) counts-4 (lit≤ tt)
+      difference-has f4 ((f12 ⊖ f16 ⊗ x) ⊗ x) f1 f4 (4 * M) (has-3 .count) M (4 * M) counts-4 (has-3 .is) (le-trans (has-3 .most) (lit≤ tt)) one-fits one-counts (ofBits-fits binary32 0x4080_0000) counts-4 (lit≤ tt)
       (left M (has-3 .count) (has-3 .most)) (sub-le (4 * M) (has-3 .count))
     where
       left : (m k : ℕ) → k ≤ 3 * m → m ≤ 4 * m - k
       left m k h = omega arith
 
-  polynomial-has : Has ((c4 ⊖ (c12 ⊖ c16 ⊗ x) ⊗ x) ⊗ x) n M
+  polynomial-has : Has ((f4 ⊖ (f12 ⊖ f16 ⊗ x) ⊗ x) ⊗ x) n M
   polynomial-has =
-      product-has (c4 ⊖ (c12 ⊖ c16 ⊗ x) ⊗ x) x x f1 (has-4 .count) n n M (has-4 .is) (p .is) (p .held) (p .is) one-fits one-counts (lit≤ tt)
+      product-has (f4 ⊖ (f12 ⊖ f16 ⊗ x) ⊗ x) x x f1 (has-4 .count) n n M (has-4 .is) (p .is) (p .held) (p .is) one-fits one-counts (lit≤ tt)
       (le-trans (le-of-eq (mul-comm n M)) (mul-le-mul-right n (has-4 .least))) (le-trans (mul-le-mul (has-4 .most) low) (lit≤ tt))
 
-polynomial-is : (x : Float) → Same (((c16 ⊗ x ⊖ c12) ⊗ x ⊕ c4) ⊗ x) ((c4 ⊖ (c12 ⊖ c16 ⊗ x) ⊗ x) ⊗ x)
+polynomial-is : (x : Float) → Same (((f16 ⊗ x ⊖ f12) ⊗ x ⊕ f4) ⊗ x) ((f4 ⊖ (f12 ⊖ f16 ⊗ x) ⊗ x) ⊗ x)
 polynomial-is x =
-    let y = c12 ⊖ c16 ⊗ x in
-    let z = (c16 ⊗ x ⊖ c12) ⊗ x in
-    let turn : Same z (neg (y ⊗ x)) = mul-same binary32 (c16 ⊗ x ⊖ c12) (neg y) x x (sub-flips binary32 (c16 ⊗ x) c12) refl ∙ ap plain (neg-times binary32 y x) in
-    mul-same binary32 (z ⊕ c4) (c4 ⊖ y ⊗ x) x x
-    (add-same binary32 z (neg (y ⊗ x)) c4 c4 turn refl ∙ ap plain (add-commutes binary32 (neg (y ⊗ x)) c4 ∙ sym (sub-is binary32 c4 (y ⊗ x)))) refl
+    let y = f12 ⊖ f16 ⊗ x in
+    let z = (f16 ⊗ x ⊖ f12) ⊗ x in
+    let turn : Same z (neg (y ⊗ x)) = mul-same binary32 (f16 ⊗ x ⊖ f12) (neg y) x x (sub-flips binary32 (f16 ⊗ x) f12) refl ∙ ap plain (neg-times binary32 y x) in
+    mul-same binary32 (z ⊕ f4) (f4 ⊖ y ⊗ x) x x
+    (add-same binary32 z (neg (y ⊗ x)) f4 f4 turn refl ∙ ap plain (add-commutes binary32 (neg (y ⊗ x)) f4 ∙ sym (sub-is binary32 f4 (y ⊗ x)))) refl
 
 -- ---- D of a number with a clear sign, of the count n: a value from n to M
 record Curve (x : Float) (n : ℕ) : Type 0 where
@@ -147,7 +133,7 @@ unfolding D
 curve x n p = go (le x quarter) refl refl
   where
     P : Float
-    P = ((c16 ⊗ x ⊖ c12) ⊗ x ⊕ c4) ⊗ x
+    P = ((f16 ⊗ x ⊖ f12) ⊗ x ⊕ f4) ⊗ x
 
     -- the order of counts is the order of values
     within : n ≤ 2 ^ 147 → T (le x quarter)
@@ -164,7 +150,7 @@ curve x n p = go (le x quarter) refl refl
 
     go : (b : Bool) → le x quarter ≡ b → Same (cond (le x quarter) P (sqrtOf x)) (cond b P (sqrtOf x)) → Curve x n
     go true k e =
-        record { value = (c4 ⊖ (c12 ⊖ c16 ⊗ x) ⊗ x) ⊗ x; same = e ∙ polynomial-is x; has = polynomial-has x n p (counts-le binary32 x quarter n (2 ^ 147) (p .is) quarter-counts (subst T (sym k) tt)) }
+        record { value = (f4 ⊖ (f12 ⊖ f16 ⊗ x) ⊗ x) ⊗ x; same = e ∙ polynomial-is x; has = polynomial-has x n p (counts-le binary32 x quarter n (2 ^ 147) (p .is) quarter-counts (subst T (sym k) tt)) }
     go false k e =
         let r = rooted (n * M) (under-one n (p .most)) in
         record {
@@ -190,11 +176,11 @@ curve-same (fin s zero e) =
     let x = fin s 0 e in
     let y = plain (fin s 0 e) in
     let z : Same x y = refl in
-    ap (λ (b : Bool). plain (cond b (((c16 ⊗ x ⊖ c12) ⊗ x ⊕ c4) ⊗ x) (sqrtOf x))) (small x (lt-plain-l x quarter))
-    ∙ mul-same binary32 ((c16 ⊗ x ⊖ c12) ⊗ x ⊕ c4) ((c16 ⊗ y ⊖ c12) ⊗ y ⊕ c4) x y
-    (add-same binary32 ((c16 ⊗ x ⊖ c12) ⊗ x) ((c16 ⊗ y ⊖ c12) ⊗ y) c4 c4 (mul-same binary32 (c16 ⊗ x ⊖ c12) (c16 ⊗ y ⊖ c12) x y (sub-same binary32 (c16 ⊗ x) (c16 ⊗ y) c12 c12 (mul-same binary32 c16 c16 x y refl z) refl) z) refl)
+    ap (λ (b : Bool). plain (cond b (((f16 ⊗ x ⊖ f12) ⊗ x ⊕ f4) ⊗ x) (sqrtOf x))) (small x (lt-plain-l x quarter))
+    ∙ mul-same binary32 ((f16 ⊗ x ⊖ f12) ⊗ x ⊕ f4) ((f16 ⊗ y ⊖ f12) ⊗ y ⊕ f4) x y
+    (add-same binary32 ((f16 ⊗ x ⊖ f12) ⊗ x) ((f16 ⊗ y ⊖ f12) ⊗ y) f4 f4 (mul-same binary32 (f16 ⊗ x ⊖ f12) (f16 ⊗ y ⊖ f12) x y (sub-same binary32 (f16 ⊗ x) (f16 ⊗ y) f12 f12 (mul-same binary32 f16 f16 x y refl z) refl) z) refl)
     z
-    ∙ sym (ap (λ (b : Bool). plain (cond b (((c16 ⊗ y ⊖ c12) ⊗ y ⊕ c4) ⊗ y) (sqrtOf y))) (small y refl))
+    ∙ sym (ap (λ (b : Bool). plain (cond b (((f16 ⊗ y ⊖ f12) ⊗ y ⊕ f4) ⊗ y) (sqrtOf y))) (small y refl))
 
 -- ---- the two branches
 module _ {b t : Float} (p : InUnit b) (q : InUnit t) where

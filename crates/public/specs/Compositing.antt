@@ -3,7 +3,8 @@
 -- Colours are straight: Cs and αs are the source's, Cb and αb the backdrop's, which is the destination here.
 use mathlib.Core.Bool.{cond}
 use lib.Ieee.{Float, le, eq}
-use Rattle.float_steps.specs.Notation.{_⊕_, _⊖_, _⊗_, _⊘_, lit, f0, f1, f2, half}
+use Rattle.float_steps.specs.Notation.{_⊕_, _⊖_, _⊗_, _⊘_, f0, f1, f2, half}
+use Rattle.float_steps.specs.Literals.{f4, f12, f16, quarter}
 use Rattle.float_steps.specs.Order.{smallerOf, largerOf}
 use Rattle.float_steps.specs.Root.{sqrtOf}
 use Rattle.float_steps.specs.Sign.{absOf}
@@ -27,9 +28,8 @@ colorDodgeB Cb Cs = cond (eq Cb f0) f0 (cond (eq Cs f1) f1 (smallerOf f1 (Cb ⊘
 unfoldable pub colorBurnB : Float → Float → Float
 colorBurnB Cb Cs = cond (eq Cb f1) f1 (cond (eq Cs f0) f0 (f1 ⊖ smallerOf f1 ((f1 ⊖ Cb) ⊘ Cs)))
 
--- 0.25, and 16, 12 and 4
 unfoldable pub D : Float → Float
-D Cb = cond (le Cb (lit 0x3e80_0000)) (((lit 0x4180_0000 ⊗ Cb ⊖ lit 0x4140_0000) ⊗ Cb ⊕ lit 0x4080_0000) ⊗ Cb) (sqrtOf Cb)
+D Cb = cond (le Cb quarter) (((f16 ⊗ Cb ⊖ f12) ⊗ Cb ⊕ f4) ⊗ Cb) (sqrtOf Cb)
 
 unfoldable pub softLightB : Float → Float → Float
 softLightB Cb Cs = cond (le Cs half) (Cb ⊖ (f1 ⊖ f2 ⊗ Cs) ⊗ Cb ⊗ (f1 ⊖ Cb)) (Cb ⊕ (f2 ⊗ Cs ⊖ f1) ⊗ (D Cb ⊖ Cb))

@@ -2,7 +2,8 @@
 -- are here for the input at which each differs. Definitions only.
 use mathlib.Core.Bool.{cond}
 use lib.Ieee.{Float, lt, eq}
-use Rattle.float_steps.specs.Notation.{_⊕_, _⊖_, _⊗_, _⊘_, lit, f0, f1}
+use Rattle.float_steps.specs.Notation.{_⊕_, _⊖_, _⊗_, _⊘_, f0, f1}
+use Rattle.float_steps.specs.Literals.{lumRed, lumGreen, lumBlue}
 use Rattle.float_steps.specs.Order.{smallerOf, largerOf}
 use Rattle.blends.specs.declared.Rgb.{Rgb}
 use Rattle.blends.specs.Hsl.{rgbOf}
@@ -13,9 +14,8 @@ pub data NonSeparable : Type 0 where
 abbrev pub each : (Float → Float) → Rgb → Rgb
 each f C = rgbOf (f (C .r)) (f (C .g)) (f (C .b))
 
--- 0.3, 0.59 and 0.11
 abbrev pub Lum : Rgb → Float
-Lum C = lit 0x3e99_999a ⊗ C .r ⊕ lit 0x3f17_0a3d ⊗ C .g ⊕ lit 0x3de1_47ae ⊗ C .b
+Lum C = lumRed ⊗ C .r ⊕ lumGreen ⊗ C .g ⊕ lumBlue ⊗ C .b
 
 abbrev pub least : Rgb → Float
 least C = smallerOf (smallerOf (C .r) (C .g)) (C .b)
