@@ -103,26 +103,18 @@ fn raw_params(args: Args) -> Params
 pub fn params(op: CompositeOp, args: Args) -> Params
     ensures { λ r. ⌜ r ≡ paramsOf op args ⌝ }
 {
-    if op.is(CompositeOp::Blend) {
-        return blend_params(args);
+    match op {
+        CompositeOp::Blend => blend_params(args),
+        CompositeOp::Dissolve => dissolve_params(args),
+        CompositeOp::ChangeMask => mask_params(args),
+        CompositeOp::Threshold => threshold_params(args),
+        CompositeOp::Modulate => modulate_params(args),
+        CompositeOp::Mathematics => raw_params(args),
+        _ => {
+            if op.is_map() {
+                return map_params(args);
+            }
+            two(0.0, 0.0)
+        }
     }
-    if op.is(CompositeOp::Dissolve) {
-        return dissolve_params(args);
-    }
-    if op.is(CompositeOp::ChangeMask) {
-        return mask_params(args);
-    }
-    if op.is(CompositeOp::Threshold) {
-        return threshold_params(args);
-    }
-    if op.is(CompositeOp::Modulate) {
-        return modulate_params(args);
-    }
-    if op.is(CompositeOp::Mathematics) {
-        return raw_params(args);
-    }
-    if op.is_map() {
-        return map_params(args);
-    }
-    two(0.0, 0.0)
 }

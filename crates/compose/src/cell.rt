@@ -2,6 +2,8 @@
 ghost use mathlib.Core.Path.{_≡_};
 ghost use Prim.Native.Nat.{_+_, _*_, _/_, _%_, _≤_};
 ghost use lib.ListN.{length};
+ghost use Rattle.operators.specs.Operators.{same};
+ghost use Rattle.operators.specs.declared.CompositeOp.the-variants as O;
 ghost use Rattle.pictures.specs.Widen.{rgbaAt, valuesOf};
 ghost use Rattle.places.specs.Bounds.{slack, Measured, Under};
 ghost use Rattle.compose.specs.Compose.{sourcePixel, writtenWord, writtenOf};
@@ -13,7 +15,7 @@ use float_steps::words::word;
 use layers::ChannelMask;
 use layers::Layer;
 use operators::CompositeOp;
-use paint::pixel;
+use paint::paint;
 use pictures::Rgba;
 use pictures::Words;
 use pictures::bilinear::bilinear;
@@ -27,10 +29,20 @@ use places::source_index;
 fn reads_through(op: CompositeOp) -> bool
     ensures { λ r. ⌜ r ≡ readsThrough op ⌝ }
 {
-    if op.is(CompositeOp::Displace) {
-        return true;
+    match op {
+        CompositeOp::Displace | CompositeOp::Distort => true,
+        _ => false,
     }
-    op.is(CompositeOp::Distort)
+}
+
+// Whether it is Displace, which moves a pixel by what the source says, and not Distort, which moves it to there.
+fn displaces(op: CompositeOp) -> bool
+    ensures { λ r. ⌜ r ≡ same op O.Displace ⌝ }
+{
+    match op {
+        CompositeOp::Displace => true,
+        _ => false,
+    }
 }
 
 // The layer's plan on a destination of dw by dh pixels.
@@ -42,7 +54,7 @@ pub fn plan(l: Layer, dw: usize, dh: usize) -> Plan
     let source = l.source;
     let params = arguments::params(op, l.args);
     let map = reads_through(op);
-    let displace = op.is(CompositeOp::Displace);
+    let displace = displaces(op);
     let gravity = l.gravity;
     let corner = placement(
         gravity,
@@ -118,7 +130,8 @@ fn result(p: Plan, picture: &[u32], channels: usize, s: Rgba, d: Rgba, j: usize)
         return map_pixel(p, picture, channels, s, j);
     }
     let op = p.op;
-    pixel(op, p.params, s, d)
+    let r = paint(op, p.params, s, d);
+    r.1
 }
 
 // A channel: written where its flag is on, else kept with all its bits.

@@ -174,7 +174,7 @@ impl Layer {
         requires { ⌜ (k * columns + columns ≤ length (now table)) × (k * argWords + argWords ≤ length (now args)) ⌝ }
         ensures { λ r. ⌜ r ≡ layerAt (now (table .entry)) (now (args .entry)) k ⌝ }
     {
-        let op = CompositeOp::at(cells::natural_at(table, k, Self::AT_OPERATOR) as u64);
+        let op = CompositeOp::at(cells::natural_at(table, k, Self::AT_OPERATOR));
         let gravity = Gravity::from_number(cells::natural_at(table, k, Self::AT_GRAVITY) as u64);
         let flags = cells::natural_at(table, k, Self::AT_FLAGS);
         let mask = ChannelMask::of(flags);

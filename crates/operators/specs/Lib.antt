@@ -1,2 +1,3 @@
 pub mod Operators
 pub mod Numbers
+pub mod Listed

@@ -1,12 +1,13 @@
--- The operators: their numbers, `CompositeOp::ALL` (composite.rs 198 to 269), their conventions, `convention` (composite.rs 916 to 943), and which are
--- maps, `is_map` (composite.rs 380 to 382).
+-- The operators: their numbers, `CompositeOp::ALL` (composite.rs 198 to 269), their names, `name` (composite.rs 272 to 345), their conventions,
+-- `convention` (composite.rs 916 to 943), and which are maps, `is_map` (composite.rs 380 to 382).
 -- Document 01: "Numbers follow `CompositeOp::ALL`", and "`convention` decides division by the union alpha, even where comments group otherwise".
--- An operator has one line, in `line`; the list of the operators, their count and their numbers are read from it. There is no test for equal operators,
--- so that a list alone would give an operator no number: each line names the operator after it.
+-- An operator has one line, in `line`; the list of the operators, their count, their numbers and the names are read from it. There is no test for equal
+-- operators, so that a list alone would give an operator no number: each line names the operator after it.
 use mathlib.Core.Bool.{Bool, _||_}
 use mathlib.Core.List.{List, [], _∷_}
 use mathlib.Core.Option.{Option, none, some}
 use Prim.Native.Nat.{ℕ, zero, suc, _-_}
+use Prim.Native.String.{String}
 use lib.Dec.{eqb}
 use lib.ListN.{length, getD}
 use Rattle.operators.specs.declared.CompositeOp.{CompositeOp}
@@ -14,87 +15,90 @@ use Rattle.operators.specs.declared.CompositeOp.the-variants as O
 use Rattle.operators.specs.declared.Convention.{Convention}
 use Rattle.operators.specs.declared.Convention.the-variants.{Premult, Divided, OnPremult, PremultOnly}
 
--- how an operator combines its blend with the alphas, and the operator after it
+-- an operator's name, how it combines its blend with the alphas, and the operator after it
 pub record Line : Type 0 where
+  pub name : String
   pub by : Convention
   pub next : Option CompositeOp
 
-infix 20 _▸_
-abbrev pub _▸_ : Convention → CompositeOp → Line
-c ▸ o = record { by = c; next = some o }
+abbrev pub row : String → Convention → CompositeOp → Line
+row n c o = record { name = n; by = c; next = some o }
 
--- Each operator's line, in the order of `ALL`: its convention ▸ the operator after it. The Rust's Premult is "every other".
+abbrev pub last : String → Convention → Line
+last n c = record { name = n; by = c; next = none }
+
+-- Each operator's line, in the order of `ALL`: its name, its convention, the operator after it. The Rust's Premult is "every other".
 abbrev pub line : CompositeOp → Line
-line O.Over = Premult ▸ O.In
-line O.In = Premult ▸ O.Out
-line O.Out = Premult ▸ O.Atop
-line O.Atop = Premult ▸ O.Xor
-line O.Xor = Premult ▸ O.Plus
-line O.Plus = Premult ▸ O.Multiply
-line O.Multiply = Premult ▸ O.Screen
-line O.Screen = Premult ▸ O.Overlay
-line O.Overlay = Divided ▸ O.Darken
-line O.Darken = OnPremult ▸ O.Lighten
-line O.Lighten = Premult ▸ O.Difference
-line O.Difference = Premult ▸ O.HardLight
-line O.HardLight = Divided ▸ O.SoftLight
-line O.SoftLight = Divided ▸ O.ColorDodge
-line O.ColorDodge = Divided ▸ O.ColorBurn
-line O.ColorBurn = Divided ▸ O.Clear
-line O.Clear = Premult ▸ O.Src
-line O.Src = Premult ▸ O.Dst
-line O.Dst = Premult ▸ O.DstOver
-line O.DstOver = Premult ▸ O.DstIn
-line O.DstIn = Premult ▸ O.DstOut
-line O.DstOut = Premult ▸ O.DstAtop
-line O.DstAtop = Premult ▸ O.MinusDst
-line O.MinusDst = Divided ▸ O.MinusSrc
-line O.MinusSrc = Divided ▸ O.DivideDst
-line O.DivideDst = OnPremult ▸ O.DivideSrc
-line O.DivideSrc = OnPremult ▸ O.ModulusAdd
-line O.ModulusAdd = PremultOnly ▸ O.ModulusSubtract
-line O.ModulusSubtract = PremultOnly ▸ O.Exclusion
-line O.Exclusion = PremultOnly ▸ O.LinearBurn
-line O.LinearBurn = Premult ▸ O.LinearDodge
-line O.LinearDodge = Divided ▸ O.LinearLight
-line O.LinearLight = Divided ▸ O.VividLight
-line O.VividLight = Divided ▸ O.PinLight
-line O.PinLight = Divided ▸ O.HardMix
-line O.HardMix = Divided ▸ O.PegtopLight
-line O.PegtopLight = Divided ▸ O.SoftBurn
-line O.SoftBurn = Divided ▸ O.SoftDodge
-line O.SoftDodge = Divided ▸ O.Stamp
-line O.Stamp = Premult ▸ O.Freeze
-line O.Freeze = Divided ▸ O.Reflect
-line O.Reflect = Divided ▸ O.Negate
-line O.Negate = PremultOnly ▸ O.Interpolate
-line O.Interpolate = PremultOnly ▸ O.Mathematics
-line O.Mathematics = Divided ▸ O.Blend
-line O.Blend = Premult ▸ O.Dissolve
-line O.Dissolve = Premult ▸ O.Rmse
-line O.Rmse = Premult ▸ O.DarkenIntensity
-line O.DarkenIntensity = Premult ▸ O.LightenIntensity
-line O.LightenIntensity = Premult ▸ O.Hue
-line O.Hue = Premult ▸ O.Saturate
-line O.Saturate = Premult ▸ O.Luminize
-line O.Luminize = Premult ▸ O.Colorize
-line O.Colorize = Premult ▸ O.CopyRed
-line O.CopyRed = Premult ▸ O.CopyGreen
-line O.CopyGreen = Premult ▸ O.CopyBlue
-line O.CopyBlue = Premult ▸ O.CopyAlpha
-line O.CopyAlpha = Premult ▸ O.CopyCyan
-line O.CopyCyan = Premult ▸ O.CopyMagenta
-line O.CopyMagenta = Premult ▸ O.CopyYellow
-line O.CopyYellow = Premult ▸ O.CopyBlack
-line O.CopyBlack = Premult ▸ O.ChangeMask
-line O.ChangeMask = Premult ▸ O.Bumpmap
-line O.Bumpmap = Premult ▸ O.Threshold
-line O.Threshold = Premult ▸ O.Displace
-line O.Displace = Premult ▸ O.Distort
-line O.Distort = Premult ▸ O.Blur
-line O.Blur = Premult ▸ O.Intensity
-line O.Intensity = Premult ▸ O.Modulate
-line O.Modulate = record { by = Premult; next = none }
+line O.Over = row "over" Premult O.In
+line O.In = row "in" Premult O.Out
+line O.Out = row "out" Premult O.Atop
+line O.Atop = row "atop" Premult O.Xor
+line O.Xor = row "xor" Premult O.Plus
+line O.Plus = row "plus" Premult O.Multiply
+line O.Multiply = row "multiply" Premult O.Screen
+line O.Screen = row "screen" Premult O.Overlay
+line O.Overlay = row "overlay" Divided O.Darken
+line O.Darken = row "darken" OnPremult O.Lighten
+line O.Lighten = row "lighten" Premult O.Difference
+line O.Difference = row "difference" Premult O.HardLight
+line O.HardLight = row "hardlight" Divided O.SoftLight
+line O.SoftLight = row "softlight" Divided O.ColorDodge
+line O.ColorDodge = row "colordodge" Divided O.ColorBurn
+line O.ColorBurn = row "colorburn" Divided O.Clear
+line O.Clear = row "clear" Premult O.Src
+line O.Src = row "src" Premult O.Dst
+line O.Dst = row "dst" Premult O.DstOver
+line O.DstOver = row "dstover" Premult O.DstIn
+line O.DstIn = row "dstin" Premult O.DstOut
+line O.DstOut = row "dstout" Premult O.DstAtop
+line O.DstAtop = row "dstatop" Premult O.MinusDst
+line O.MinusDst = row "minusdst" Divided O.MinusSrc
+line O.MinusSrc = row "minussrc" Divided O.DivideDst
+line O.DivideDst = row "dividedst" OnPremult O.DivideSrc
+line O.DivideSrc = row "dividesrc" OnPremult O.ModulusAdd
+line O.ModulusAdd = row "modulusadd" PremultOnly O.ModulusSubtract
+line O.ModulusSubtract = row "modulussubtract" PremultOnly O.Exclusion
+line O.Exclusion = row "exclusion" PremultOnly O.LinearBurn
+line O.LinearBurn = row "linearburn" Premult O.LinearDodge
+line O.LinearDodge = row "lineardodge" Divided O.LinearLight
+line O.LinearLight = row "linearlight" Divided O.VividLight
+line O.VividLight = row "vividlight" Divided O.PinLight
+line O.PinLight = row "pinlight" Divided O.HardMix
+line O.HardMix = row "hardmix" Divided O.PegtopLight
+line O.PegtopLight = row "pegtoplight" Divided O.SoftBurn
+line O.SoftBurn = row "softburn" Divided O.SoftDodge
+line O.SoftDodge = row "softdodge" Divided O.Stamp
+line O.Stamp = row "stamp" Premult O.Freeze
+line O.Freeze = row "freeze" Divided O.Reflect
+line O.Reflect = row "reflect" Divided O.Negate
+line O.Negate = row "negate" PremultOnly O.Interpolate
+line O.Interpolate = row "interpolate" PremultOnly O.Mathematics
+line O.Mathematics = row "mathematics" Divided O.Blend
+line O.Blend = row "blend" Premult O.Dissolve
+line O.Dissolve = row "dissolve" Premult O.Rmse
+line O.Rmse = row "rmse" Premult O.DarkenIntensity
+line O.DarkenIntensity = row "darkenintensity" Premult O.LightenIntensity
+line O.LightenIntensity = row "lightenintensity" Premult O.Hue
+line O.Hue = row "hue" Premult O.Saturate
+line O.Saturate = row "saturate" Premult O.Luminize
+line O.Luminize = row "luminize" Premult O.Colorize
+line O.Colorize = row "colorize" Premult O.CopyRed
+line O.CopyRed = row "copyred" Premult O.CopyGreen
+line O.CopyGreen = row "copygreen" Premult O.CopyBlue
+line O.CopyBlue = row "copyblue" Premult O.CopyAlpha
+line O.CopyAlpha = row "copyalpha" Premult O.CopyCyan
+line O.CopyCyan = row "copycyan" Premult O.CopyMagenta
+line O.CopyMagenta = row "copymagenta" Premult O.CopyYellow
+line O.CopyYellow = row "copyyellow" Premult O.CopyBlack
+line O.CopyBlack = row "copyblack" Premult O.ChangeMask
+line O.ChangeMask = row "changemask" Premult O.Bumpmap
+line O.Bumpmap = row "bumpmap" Premult O.Threshold
+line O.Threshold = row "threshold" Premult O.Displace
+line O.Displace = row "displace" Premult O.Distort
+line O.Distort = row "distort" Premult O.Blur
+line O.Blur = row "blur" Premult O.Intensity
+line O.Intensity = row "intensity" Premult O.Modulate
+line O.Modulate = last "modulate" Premult
 
 abbrev pub convention : CompositeOp → Convention
 convention o = line o .by

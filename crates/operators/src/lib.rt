@@ -1,8 +1,8 @@
-// The 70 operators of `CompositeOp` (composite.rs 46 to 194): their numbers, and what a number names.
+// The 70 operators of `CompositeOp` (composite.rs 46 to 194): their numbers, their conventions, and what a number names.
 // The contracts cite specs/Operators and specs/Numbers.
 ghost use mathlib.Core.Path.{_≡_};
-ghost use Rattle.operators.specs.Operators.{numberOf, opAt, same, isMap};
-ghost use Rattle.operators.specs.Numbers.{opOf};
+ghost use Rattle.operators.specs.Operators.{opAt, convention, isMap};
+ghost use Rattle.operators.specs.Numbers.{named, opOf};
 
 mod table;
 
@@ -97,26 +97,86 @@ pub enum Numbered {
 }
 
 impl CompositeOp {
-    // The operators have the numbers 0 to COUNT - 1.
-    pub const COUNT: u64 = table::ALL.len() as u64;
-    // The two that are not carried (document 01, CURVE).
-    pub const INTERPOLATE: u64 = 43;
-
-    pub const BLUR: u64 = 67;
-
-    // The operator's place in `ALL`.
-    pub fn number(self) -> u64
-        ensures { λ r. ⌜ r ≡ numberOf self ⌝ }
-    {
-        table::place(self)
-    }
+    // Every operator, in the order of their numbers.
+    pub const ALL: [CompositeOp; 70] = [
+        CompositeOp::Over,
+        CompositeOp::In,
+        CompositeOp::Out,
+        CompositeOp::Atop,
+        CompositeOp::Xor,
+        CompositeOp::Plus,
+        CompositeOp::Multiply,
+        CompositeOp::Screen,
+        CompositeOp::Overlay,
+        CompositeOp::Darken,
+        CompositeOp::Lighten,
+        CompositeOp::Difference,
+        CompositeOp::HardLight,
+        CompositeOp::SoftLight,
+        CompositeOp::ColorDodge,
+        CompositeOp::ColorBurn,
+        CompositeOp::Clear,
+        CompositeOp::Src,
+        CompositeOp::Dst,
+        CompositeOp::DstOver,
+        CompositeOp::DstIn,
+        CompositeOp::DstOut,
+        CompositeOp::DstAtop,
+        CompositeOp::MinusDst,
+        CompositeOp::MinusSrc,
+        CompositeOp::DivideDst,
+        CompositeOp::DivideSrc,
+        CompositeOp::ModulusAdd,
+        CompositeOp::ModulusSubtract,
+        CompositeOp::Exclusion,
+        CompositeOp::LinearBurn,
+        CompositeOp::LinearDodge,
+        CompositeOp::LinearLight,
+        CompositeOp::VividLight,
+        CompositeOp::PinLight,
+        CompositeOp::HardMix,
+        CompositeOp::PegtopLight,
+        CompositeOp::SoftBurn,
+        CompositeOp::SoftDodge,
+        CompositeOp::Stamp,
+        CompositeOp::Freeze,
+        CompositeOp::Reflect,
+        CompositeOp::Negate,
+        CompositeOp::Interpolate,
+        CompositeOp::Mathematics,
+        CompositeOp::Blend,
+        CompositeOp::Dissolve,
+        CompositeOp::Rmse,
+        CompositeOp::DarkenIntensity,
+        CompositeOp::LightenIntensity,
+        CompositeOp::Hue,
+        CompositeOp::Saturate,
+        CompositeOp::Luminize,
+        CompositeOp::Colorize,
+        CompositeOp::CopyRed,
+        CompositeOp::CopyGreen,
+        CompositeOp::CopyBlue,
+        CompositeOp::CopyAlpha,
+        CompositeOp::CopyCyan,
+        CompositeOp::CopyMagenta,
+        CompositeOp::CopyYellow,
+        CompositeOp::CopyBlack,
+        CompositeOp::ChangeMask,
+        CompositeOp::Bumpmap,
+        CompositeOp::Threshold,
+        CompositeOp::Displace,
+        CompositeOp::Distort,
+        CompositeOp::Blur,
+        CompositeOp::Intensity,
+        CompositeOp::Modulate,
+    ];
 
     // The operator at a place of `ALL`; past its end, Over.
-    pub fn at(n: u64) -> CompositeOp
+    pub fn at(n: usize) -> CompositeOp
         ensures { λ r. ⌜ r ≡ opAt n ⌝ }
     {
-        if n < Self::COUNT {
-            return table::ALL[n as usize];
+        if n < Self::ALL.len() {
+            return Self::ALL[n];
         }
         CompositeOp::Over
     }
@@ -128,36 +188,63 @@ impl CompositeOp {
         if n < 0 {
             return Numbered::Unknown;
         }
-        let k = n as u64;
-        if Self::COUNT <= k {
-            return Numbered::Unknown;
+        match table::lookup(n as u64) {
+            table::Listed::At(op) => op.named(),
+            table::Listed::Past => Numbered::Unknown,
         }
-        if k == Self::INTERPOLATE {
-            return Numbered::Curve;
-        }
-        if k == Self::BLUR {
-            return Numbered::Curve;
-        }
-        Numbered::Op(Self::at(k))
     }
 
-    // Whether it is this operator.
-    pub fn is(self, other: CompositeOp) -> bool
-        ensures { λ r. ⌜ r ≡ same self other ⌝ }
+    // What the number of this operator names: Interpolate and Blur are not carried (document 01, CURVE).
+    fn named(self) -> Numbered
+        ensures { λ r. ⌜ r ≡ named self ⌝ }
     {
-        self.number() == other.number()
+        match self {
+            CompositeOp::Interpolate | CompositeOp::Blur => Numbered::Curve,
+            _ => Numbered::Op(self),
+        }
+    }
+
+    // How the operator combines its blend with the alphas.
+    pub fn convention(self) -> Convention
+        ensures { λ r. ⌜ r ≡ convention self ⌝ }
+    {
+        match self {
+            CompositeOp::Overlay
+            | CompositeOp::HardLight
+            | CompositeOp::SoftLight
+            | CompositeOp::ColorDodge
+            | CompositeOp::ColorBurn
+            | CompositeOp::MinusDst
+            | CompositeOp::MinusSrc
+            | CompositeOp::LinearDodge
+            | CompositeOp::LinearLight
+            | CompositeOp::VividLight
+            | CompositeOp::PinLight
+            | CompositeOp::HardMix
+            | CompositeOp::PegtopLight
+            | CompositeOp::SoftBurn
+            | CompositeOp::SoftDodge
+            | CompositeOp::Freeze
+            | CompositeOp::Reflect
+            | CompositeOp::Mathematics => Convention::Divided,
+            CompositeOp::Darken | CompositeOp::DivideDst | CompositeOp::DivideSrc =>
+                Convention::OnPremult,
+            CompositeOp::ModulusAdd
+            | CompositeOp::ModulusSubtract
+            | CompositeOp::Exclusion
+            | CompositeOp::Negate
+            | CompositeOp::Interpolate => Convention::PremultOnly,
+            _ => Convention::Premult,
+        }
     }
 
     // Whether the operator reads the source as a map rather than as a picture to blend.
     pub fn is_map(self) -> bool
         ensures { λ r. ⌜ r ≡ isMap self ⌝ }
     {
-        if self.is(CompositeOp::Displace) {
-            return true;
+        match self {
+            CompositeOp::Displace | CompositeOp::Distort | CompositeOp::Blur => true,
+            _ => false,
         }
-        if self.is(CompositeOp::Distort) {
-            return true;
-        }
-        self.is(CompositeOp::Blur)
     }
 }

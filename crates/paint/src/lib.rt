@@ -15,7 +15,8 @@ use pixels::porter_duff as pd;
 // A pixel, with the operator whose arm gave it: what an arm has to show is then of that operator alone, and needs no proof of its own.
 pub struct Arm(pub O, pub Rgba);
 
-fn paint(op: O, p: Params, s: Rgba, d: Rgba) -> Arm
+// One pixel of the source on one of the destination, both straight RGBA.
+pub fn paint(op: O, p: Params, s: Rgba, d: Rgba) -> Arm
     ensures { λ r. ⌜ (op ≡ r .0) × (r .1 ≡ pixelOf (r .0) p s d) ⌝ }
 {
     match op {
@@ -101,12 +102,4 @@ fn paint(op: O, p: Params, s: Rgba, d: Rgba) -> Arm
         O::Intensity => Arm(O::Intensity, c::intensity_of(s, d)),
         O::Modulate => Arm(O::Modulate, c::modulate(p, s, d)),
     }
-}
-
-// One pixel of the source on one of the destination, both straight RGBA.
-pub fn pixel(op: O, p: Params, s: Rgba, d: Rgba) -> Rgba
-    ensures { λ r. ⌜ r ≡ pixelOf op p s d ⌝ }
-{
-    let r = paint(op, p, s, d);
-    r.1
 }

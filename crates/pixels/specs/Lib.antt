@@ -1,3 +1,2 @@
-pub mod Blend
 pub mod Channel
 pub mod Pixel

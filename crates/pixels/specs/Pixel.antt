@@ -8,16 +8,16 @@ use Rattle.operators.specs.declared.CompositeOp.the-variants as O
 use Rattle.operators.specs.declared.Convention.{Convention}
 use Rattle.float_steps.specs.Notation.{_⊕_, _⊖_, _⊗_, _⊘_, f0, f1, f2, half}
 use Rattle.float_steps.specs.Literals.{f3, intensityRed, intensityGreen, intensityBlue}
-use Rattle.float_steps.specs.Order.{smallerOf, unitOf}
+use Rattle.float_steps.specs.Order.{smallerOf, largerOf, unitOf}
 use Rattle.float_steps.specs.Remainder.{wrapOf}
 use Rattle.float_steps.specs.Root.{sqrtOf}
-use Rattle.float_steps.specs.Sign.{squareOf}
+use Rattle.float_steps.specs.Sign.{absOf, squareOf}
 use Rattle.pictures.specs.declared.Rgba.{Rgba}
 use Rattle.blends.specs.declared.Rgb.{Rgb}
 use Rattle.blends.specs.declared.Hsl.{Hsl}
+use Rattle.blends.specs.Blends.{hardLightOf, softLightOf, colorDodgeOf, colorBurnOf, divideOf, vividLightOf, pinLightOf, hardMixOf, freezeOf, reflectOf}
 use Rattle.blends.specs.Hsl.{hslOf, rgbToHslOf, hslToRgbOf}
 use Rattle.pixels.specs.declared.Params.{Params}
-use Rattle.pixels.specs.Blend.{blendOf}
 use Rattle.pixels.specs.Channel.{overAlphaOf, channelOf, overChannel, atopChannel, xorChannel, plusChannel, colouredChannel, withinFuzz, thresholdChannel}
 
 abbrev pub rgbaOf : Float → Float → Float → Float → Rgba
@@ -102,11 +102,102 @@ modulatedBy i c p = hslToRgbOf (hslOf (c .h) (scaledOf (c .s) i (p .b)) (scaledO
 abbrev pub withColour : Rgb → Float → Rgba
 withColour c a = rgbaOf (c .r) (c .g) (c .b) a
 
+-- ---- an operator's formula: of the two pixels; or, for a mathematical operator, of one colour channel of each; or, for a modulus, of the two alphas
+pub data Formula : Type 0 where
+  pixel : (Rgba → Rgba → Rgba) → Formula
+  blend : (Float → Float → Float) → Formula
+  modulus : (Float → Float → Float) → Formula
+
+-- One line an operator: its arm of `pixel` (composite.rs 650 to 852), or of `blend_inner` (composite.rs 957 to 1031), which the last arm of `pixel` comes to. The
+-- parameters p are the operator's arguments, with their defaults in place. Displace, Distort and Blur read the source as a map: their line is the Rust's,
+-- and composition does not come here for them. Interpolate is refused (document 01, CURVE): its line is never used.
+abbrev pub formulaOf : CompositeOp → Params → Formula
+formulaOf O.Over p = pixel (λ s d. overOf s d)
+formulaOf O.In p = pixel (λ s d. premultOf s (s .a ⊗ d .a))
+formulaOf O.Out p = pixel (λ s d. premultOf s (s .a ⊗ (f1 ⊖ d .a)))
+formulaOf O.Atop p = pixel (λ s d. onColours (λ x y. atopChannel x y (s .a) (d .a)) s d (d .a))
+formulaOf O.Xor p = pixel (λ s d. onColours (λ x y. xorChannel x y (s .a) (d .a)) s d (s .a ⊗ (f1 ⊖ d .a) ⊕ d .a ⊗ (f1 ⊖ s .a)))
+formulaOf O.Plus p = pixel (λ s d. onColours (λ x y. plusChannel x y (s .a) (d .a)) s d (smallerOf (s .a ⊕ d .a) f1))
+formulaOf O.Multiply p = blend (λ s d. s ⊗ d)
+formulaOf O.Screen p = blend (λ s d. s ⊕ d ⊖ s ⊗ d)
+formulaOf O.Overlay p = blend (λ s d. hardLightOf d s)
+formulaOf O.Darken p = blend (λ s d. smallerOf s d)
+formulaOf O.Lighten p = blend (λ s d. largerOf s d)
+formulaOf O.Difference p = blend (λ s d. absOf (s ⊖ d))
+formulaOf O.HardLight p = blend (λ s d. hardLightOf s d)
+formulaOf O.SoftLight p = blend (λ s d. softLightOf s d)
+formulaOf O.ColorDodge p = blend (λ s d. colorDodgeOf s d)
+formulaOf O.ColorBurn p = blend (λ s d. colorBurnOf s d)
+formulaOf O.Clear p = pixel (λ s d. clear)
+formulaOf O.Src p = pixel (λ s d. s)
+formulaOf O.Dst p = pixel (λ s d. d)
+formulaOf O.DstOver p = pixel (λ s d. keptWhereClear (overOf d s) d)
+formulaOf O.DstIn p = pixel (λ s d. straightOrClearOf d (s .a ⊗ d .a))
+formulaOf O.DstOut p = pixel (λ s d. straightOrClearOf d (d .a ⊗ (f1 ⊖ s .a)))
+formulaOf O.DstAtop p = pixel (λ s d. onColours (λ x y. atopChannel y x (d .a) (s .a)) s d (s .a))
+formulaOf O.MinusDst p = blend (λ s d. s ⊖ d)
+formulaOf O.MinusSrc p = blend (λ s d. d ⊖ s)
+formulaOf O.DivideDst p = blend (λ s d. divideOf s d)
+formulaOf O.DivideSrc p = blend (λ s d. divideOf d s)
+formulaOf O.ModulusAdd p = modulus (λ sa da. sa ⊕ da)
+formulaOf O.ModulusSubtract p = modulus (λ sa da. sa ⊖ da)
+formulaOf O.Exclusion p = blend (λ s d. s ⊕ d ⊖ f2 ⊗ s ⊗ d)
+formulaOf O.LinearBurn p = blend (λ s d. s ⊕ d ⊖ f1)
+formulaOf O.LinearDodge p = blend (λ s d. s ⊕ d)
+formulaOf O.LinearLight p = blend (λ s d. d ⊕ f2 ⊗ s ⊖ f1)
+formulaOf O.VividLight p = blend (λ s d. vividLightOf s d)
+formulaOf O.PinLight p = blend (λ s d. pinLightOf s d)
+formulaOf O.HardMix p = blend (λ s d. hardMixOf s d)
+formulaOf O.PegtopLight p = blend (λ s d. (f1 ⊖ f2 ⊗ s) ⊗ d ⊗ d ⊕ f2 ⊗ s ⊗ d)
+formulaOf O.SoftBurn p = blend (λ s d. colorBurnOf s d)
+formulaOf O.SoftDodge p = blend (λ s d. colorDodgeOf s d)
+formulaOf O.Stamp p = blend (λ s d. s ⊕ d ⊖ f1)
+formulaOf O.Freeze p = blend (λ s d. freezeOf s d)
+formulaOf O.Reflect p = blend (λ s d. reflectOf s d)
+formulaOf O.Negate p = blend (λ s d. f1 ⊖ absOf (f1 ⊖ s ⊖ d))
+formulaOf O.Interpolate p = pixel (λ s d. d)
+formulaOf O.Mathematics p = blend (λ s d. p .a ⊗ s ⊗ d ⊕ p .b ⊗ s ⊕ p .c ⊗ d ⊕ p .d)
+formulaOf O.Blend p = pixel (λ s d. onColours (λ x y. x ⊗ p .a ⊕ y ⊗ p .b) s d (smallerOf (s .a ⊗ p .a ⊕ d .a ⊗ p .b) f1))
+formulaOf O.Dissolve p = pixel (λ s d. overOf (withAlpha s (smallerOf (s .a ⊗ p .a) f1)) (withAlpha d (smallerOf (d .a ⊗ p .b) f1)))
+formulaOf O.Rmse p = pixel (λ s d. grayOf (rmseOf s d) (overAlphaOf (s .a) (d .a)))
+formulaOf O.DarkenIntensity p = pixel (λ s d. whereDarker s d s d)
+formulaOf O.LightenIntensity p = pixel (λ s d. whereDarker d s s d)
+formulaOf O.Hue p = pixel (λ s d. colouredOf (hslOf (hslAt s .h) (hslAt d .s) (hslAt d .l)) s d)
+formulaOf O.Saturate p = pixel (λ s d. colouredOf (hslOf (hslAt d .h) (hslAt s .s) (hslAt d .l)) s d)
+formulaOf O.Luminize p = pixel (λ s d. colouredOf (hslOf (hslAt d .h) (hslAt d .s) (hslAt s .l)) s d)
+formulaOf O.Colorize p = pixel (λ s d. colouredOf (hslOf (hslAt s .h) (hslAt s .s) (hslAt d .l)) s d)
+formulaOf O.CopyRed p = pixel (λ s d. rgbaOf (s .r) (d .g) (d .b) (d .a))
+formulaOf O.CopyGreen p = pixel (λ s d. rgbaOf (d .r) (s .g) (d .b) (d .a))
+formulaOf O.CopyBlue p = pixel (λ s d. rgbaOf (d .r) (d .g) (s .b) (d .a))
+formulaOf O.CopyAlpha p = pixel (λ s d. rgbaOf (d .r) (d .g) (d .b) (s .a))
+formulaOf O.CopyCyan p = pixel (λ s d. rgbaOf (s .r) (d .g) (d .b) (d .a))
+formulaOf O.CopyMagenta p = pixel (λ s d. rgbaOf (d .r) (s .g) (d .b) (d .a))
+formulaOf O.CopyYellow p = pixel (λ s d. rgbaOf (d .r) (d .g) (s .b) (d .a))
+formulaOf O.CopyBlack p = pixel (λ s d. grayOf (intensityOf s) (d .a))
+formulaOf O.ChangeMask p = pixel (λ s d. changeMaskOf (p .a) s d)
+formulaOf O.Bumpmap p = pixel (λ s d. rgbaOf (d .r ⊗ intensityOf s) (d .g ⊗ intensityOf s) (d .b ⊗ intensityOf s) (d .a))
+formulaOf O.Threshold p = pixel (λ s d. onColours (thresholdChannel (p .a) (p .b)) s d (d .a))
+formulaOf O.Displace p = pixel (λ s d. d)
+formulaOf O.Distort p = pixel (λ s d. d)
+formulaOf O.Blur p = pixel (λ s d. d)
+formulaOf O.Intensity p = pixel (λ s d. grayOf (intensityOf s) (overAlphaOf (s .a) (d .a)))
+formulaOf O.Modulate p = pixel (λ s d. withColour (modulatedBy (intensityOf s ⊖ half) (hslAt d) p) (d .a))
+
 -- ---- the mathematical operators, the arm `op` (composite.rs 824 to 850)
 
 -- where an operator takes no arguments
 abbrev pub unused : Params
 unused = record { a = f0; b = f0; c = f0; d = f0 }
+
+-- `blend_inner` (composite.rs 957 to 1031): what the operator makes of one colour channel of the source, s, and of the destination, d. One that is not
+-- mathematical, or is a modulus, has the Rust's `_ => s`.
+abbrev pub blendIn : Formula → Float → Float → Float
+blendIn (pixel f) s d = s
+blendIn (blend B) s d = B s d
+blendIn (modulus f) s d = s
+
+abbrev pub blendOf : CompositeOp → Params → Float → Float → Float
+blendOf op p s d = blendIn (formulaOf op p) s d
 
 -- its colours under a convention, beside an alpha of its own
 abbrev pub underConvention : Convention → CompositeOp → Params → Rgba → Rgba → Float → Rgba
@@ -118,76 +209,12 @@ mathematicalBy op p s d a = underConvention (convention op) op p s d a
 abbrev pub mathematicalOf : CompositeOp → Params → Rgba → Rgba → Rgba
 mathematicalOf op p s d = mathematicalBy op p s d (overAlphaOf (s .a) (d .a))
 
--- ---- `pixel`. The parameters p are the operator's arguments, with their defaults in place. Displace, Distort and Blur read the source as a map:
--- their line is the Rust's, and composition does not come here for them. Interpolate is refused (document 01, CURVE): its line is never used.
+-- ---- `pixel`
+
+abbrev pub pixelBy : Formula → CompositeOp → Params → Rgba → Rgba → Rgba
+pixelBy (pixel f) op p s d = f s d
+pixelBy (blend B) op p s d = mathematicalOf op p s d
+pixelBy (modulus f) op p s d = mathematicalBy op p s d (wrapOf (f (s .a) (d .a)))
+
 abbrev pub pixelOf : CompositeOp → Params → Rgba → Rgba → Rgba
-pixelOf O.Over p s d = overOf s d
-pixelOf O.In p s d = premultOf s (s .a ⊗ d .a)
-pixelOf O.Out p s d = premultOf s (s .a ⊗ (f1 ⊖ d .a))
-pixelOf O.Atop p s d = onColours (λ x y. atopChannel x y (s .a) (d .a)) s d (d .a)
-pixelOf O.Xor p s d = onColours (λ x y. xorChannel x y (s .a) (d .a)) s d (s .a ⊗ (f1 ⊖ d .a) ⊕ d .a ⊗ (f1 ⊖ s .a))
-pixelOf O.Plus p s d = onColours (λ x y. plusChannel x y (s .a) (d .a)) s d (smallerOf (s .a ⊕ d .a) f1)
-pixelOf O.Multiply p s d = mathematicalOf O.Multiply p s d
-pixelOf O.Screen p s d = mathematicalOf O.Screen p s d
-pixelOf O.Overlay p s d = mathematicalOf O.Overlay p s d
-pixelOf O.Darken p s d = mathematicalOf O.Darken p s d
-pixelOf O.Lighten p s d = mathematicalOf O.Lighten p s d
-pixelOf O.Difference p s d = mathematicalOf O.Difference p s d
-pixelOf O.HardLight p s d = mathematicalOf O.HardLight p s d
-pixelOf O.SoftLight p s d = mathematicalOf O.SoftLight p s d
-pixelOf O.ColorDodge p s d = mathematicalOf O.ColorDodge p s d
-pixelOf O.ColorBurn p s d = mathematicalOf O.ColorBurn p s d
-pixelOf O.Clear p s d = clear
-pixelOf O.Src p s d = s
-pixelOf O.Dst p s d = d
-pixelOf O.DstOver p s d = keptWhereClear (overOf d s) d
-pixelOf O.DstIn p s d = straightOrClearOf d (s .a ⊗ d .a)
-pixelOf O.DstOut p s d = straightOrClearOf d (d .a ⊗ (f1 ⊖ s .a))
-pixelOf O.DstAtop p s d = onColours (λ x y. atopChannel y x (d .a) (s .a)) s d (s .a)
-pixelOf O.MinusDst p s d = mathematicalOf O.MinusDst p s d
-pixelOf O.MinusSrc p s d = mathematicalOf O.MinusSrc p s d
-pixelOf O.DivideDst p s d = mathematicalOf O.DivideDst p s d
-pixelOf O.DivideSrc p s d = mathematicalOf O.DivideSrc p s d
-pixelOf O.ModulusAdd p s d = mathematicalBy O.ModulusAdd p s d (wrapOf (s .a ⊕ d .a))
-pixelOf O.ModulusSubtract p s d = mathematicalBy O.ModulusSubtract p s d (wrapOf (s .a ⊖ d .a))
-pixelOf O.Exclusion p s d = mathematicalOf O.Exclusion p s d
-pixelOf O.LinearBurn p s d = mathematicalOf O.LinearBurn p s d
-pixelOf O.LinearDodge p s d = mathematicalOf O.LinearDodge p s d
-pixelOf O.LinearLight p s d = mathematicalOf O.LinearLight p s d
-pixelOf O.VividLight p s d = mathematicalOf O.VividLight p s d
-pixelOf O.PinLight p s d = mathematicalOf O.PinLight p s d
-pixelOf O.HardMix p s d = mathematicalOf O.HardMix p s d
-pixelOf O.PegtopLight p s d = mathematicalOf O.PegtopLight p s d
-pixelOf O.SoftBurn p s d = mathematicalOf O.SoftBurn p s d
-pixelOf O.SoftDodge p s d = mathematicalOf O.SoftDodge p s d
-pixelOf O.Stamp p s d = mathematicalOf O.Stamp p s d
-pixelOf O.Freeze p s d = mathematicalOf O.Freeze p s d
-pixelOf O.Reflect p s d = mathematicalOf O.Reflect p s d
-pixelOf O.Negate p s d = mathematicalOf O.Negate p s d
-pixelOf O.Interpolate p s d = d
-pixelOf O.Mathematics p s d = mathematicalOf O.Mathematics p s d
-pixelOf O.Blend p s d = onColours (λ x y. x ⊗ p .a ⊕ y ⊗ p .b) s d (smallerOf (s .a ⊗ p .a ⊕ d .a ⊗ p .b) f1)
-pixelOf O.Dissolve p s d = overOf (withAlpha s (smallerOf (s .a ⊗ p .a) f1)) (withAlpha d (smallerOf (d .a ⊗ p .b) f1))
-pixelOf O.Rmse p s d = grayOf (rmseOf s d) (overAlphaOf (s .a) (d .a))
-pixelOf O.DarkenIntensity p s d = whereDarker s d s d
-pixelOf O.LightenIntensity p s d = whereDarker d s s d
-pixelOf O.Hue p s d = colouredOf (hslOf (hslAt s .h) (hslAt d .s) (hslAt d .l)) s d
-pixelOf O.Saturate p s d = colouredOf (hslOf (hslAt d .h) (hslAt s .s) (hslAt d .l)) s d
-pixelOf O.Luminize p s d = colouredOf (hslOf (hslAt d .h) (hslAt d .s) (hslAt s .l)) s d
-pixelOf O.Colorize p s d = colouredOf (hslOf (hslAt s .h) (hslAt s .s) (hslAt d .l)) s d
-pixelOf O.CopyRed p s d = rgbaOf (s .r) (d .g) (d .b) (d .a)
-pixelOf O.CopyGreen p s d = rgbaOf (d .r) (s .g) (d .b) (d .a)
-pixelOf O.CopyBlue p s d = rgbaOf (d .r) (d .g) (s .b) (d .a)
-pixelOf O.CopyAlpha p s d = rgbaOf (d .r) (d .g) (d .b) (s .a)
-pixelOf O.CopyCyan p s d = rgbaOf (s .r) (d .g) (d .b) (d .a)
-pixelOf O.CopyMagenta p s d = rgbaOf (d .r) (s .g) (d .b) (d .a)
-pixelOf O.CopyYellow p s d = rgbaOf (d .r) (d .g) (s .b) (d .a)
-pixelOf O.CopyBlack p s d = grayOf (intensityOf s) (d .a)
-pixelOf O.ChangeMask p s d = changeMaskOf (p .a) s d
-pixelOf O.Bumpmap p s d = rgbaOf (d .r ⊗ intensityOf s) (d .g ⊗ intensityOf s) (d .b ⊗ intensityOf s) (d .a)
-pixelOf O.Threshold p s d = onColours (thresholdChannel (p .a) (p .b)) s d (d .a)
-pixelOf O.Displace p s d = d
-pixelOf O.Distort p s d = d
-pixelOf O.Blur p s d = d
-pixelOf O.Intensity p s d = grayOf (intensityOf s) (overAlphaOf (s .a) (d .a))
-pixelOf O.Modulate p s d = withColour (modulatedBy (intensityOf s ⊖ half) (hslAt d) p) (d .a)
+pixelOf op p s d = pixelBy (formulaOf op p) op p s d

@@ -2,11 +2,11 @@
 // channel, its convention how the blend is combined with the alphas. An operator that is not mathematical has the Rust's `_ => s`. `paint` names operator
 // and convention at each call, so that nothing of the two matches is left in compiled code.
 ghost use mathlib.Core.Path.{_≡_};
+ghost use Rattle.operators.specs.Operators.{convention};
 ghost use Rattle.operators.specs.declared.Convention.the-variants as C;
 ghost use Rattle.float_steps.specs.Remainder.{wrapOf};
-ghost use Rattle.pixels.specs.Blend.{blendOf};
-ghost use Rattle.pixels.specs.Channel.{channelOf, overAlphaOf};
-ghost use Rattle.pixels.specs.Pixel.{underConvention};
+ghost use Rattle.pixels.specs.Channel.{channelOf};
+ghost use Rattle.pixels.specs.Pixel.{blendOf, underConvention, mathematicalOf};
 use crate::Params;
 use crate::conventions::divided;
 use crate::conventions::on_premult;
@@ -133,9 +133,10 @@ fn beside_alpha(by: By, op: O, p: Params, s: Rgba, d: Rgba, a: f32) -> Rgba
     }
 }
 
-// A mathematical operator with the union alpha.
+// A mathematical operator with the union alpha. Its convention is named beside it, as a constant, for the compiler's sake.
 pub fn mathematical(by: By, op: O, p: Params, s: Rgba, d: Rgba) -> Rgba
-    ensures { λ r. ⌜ r ≡ underConvention by op p s d (overAlphaOf (s .a) (d .a)) ⌝ }
+    requires { ⌜ by ≡ convention op ⌝ }
+    ensures { λ r. ⌜ r ≡ mathematicalOf op p s d ⌝ }
 {
     beside_alpha(by, op, p, s, d, over_alpha(s.a, d.a))
 }

@@ -16,7 +16,7 @@ use Rattle.ieee_laws.proofs.Twice.{twice-moves}
 use Rattle.ieee_laws.proofs.Clamp.{smaller-commutes, larger-commutes, one-fits}
 use Rattle.ieee_laws.proofs.Abs.{abs-sub}
 use Rattle.blends.specs.Blends.{hardLightOf, softLightOf, curveOf, colorDodgeOf, colorBurnOf}
-use Rattle.pixels.specs.Blend.{blendOf}
+use Rattle.pixels.specs.Pixel.{blendOf}
 use Rattle.pixels.specs.declared.Params.{Params}
 use Rattle.public.specs.Compositing.{Mode, multiply, screen, overlay, darken, lighten, colorDodge, colorBurn, hardLight, softLight, difference, exclusion, B, hardLightB, softLightB, D, colorDodgeB, colorBurnB}
 use Rattle.public.specs.Operators.{blendOp}

@@ -9,7 +9,7 @@ use Rattle.float_steps.specs.Order.{smallerOf}
 use Rattle.ieee_laws.specs.Same.{plain, Same, Zero}
 use Rattle.ieee_laws.proofs.Order.{lt-same}
 use Rattle.blends.specs.Blends.{hardLightOf, colorDodgeOf, colorBurnOf}
-use Rattle.pixels.specs.Blend.{blendOf}
+use Rattle.pixels.specs.Pixel.{blendOf}
 use Rattle.pixels.specs.declared.Params.{Params}
 use Rattle.public.specs.Compositing.{Mode, multiply, screen, overlay, darken, lighten, colorDodge, colorBurn, hardLight, softLight, difference, exclusion, B, hardLightB, colorDodgeB, colorBurnB}
 use Rattle.public.specs.Operators.{blendOp}

@@ -17,9 +17,8 @@ use Rattle.operators.specs.declared.Convention.the-variants.{Premult, Divided, 
 use Rattle.operators.specs.Operators.{convention}
 use Rattle.pictures.specs.declared.Rgba.{Rgba}
 use Rattle.pixels.specs.declared.Params.{Params}
-use Rattle.pixels.specs.Blend.{blendOf}
 use Rattle.pixels.specs.Channel.{channelOf, overUnionOf, overAlphaOf}
-use Rattle.pixels.specs.Pixel.{pixelOf, mathematicalOf}
+use Rattle.pixels.specs.Pixel.{pixelOf, blendOf, mathematicalOf}
 use Rattle.public.specs.Compositing.{Mode, multiply, screen, overlay, darken, lighten, colorDodge, colorBurn, hardLight, softLight, difference, exclusion, B}
 use Rattle.public.specs.Operators.{Colour, at, Held, blendOp}
 use Rattle.public.specs.BlendDifferences.{union, uncovered, spread, coBy, overUnion, blended, storedBy, Unseen, StoredOutside}

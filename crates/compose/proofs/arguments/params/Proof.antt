@@ -1,88 +1,103 @@
--- `compose::arguments::params` meets its contract: its tests are those of the definition, in their order. Assumes nothing.
-use mathlib.Core.Path.{_≡_, sym, _∙_}
-use mathlib.Core.Bool.{false}
+-- `compose::arguments::params` meets its contract: an arm's operator decides each test of the definition; in the last arm all but the last of them fail.
+-- Assumes nothing.
+use mathlib.Core.Path.{_≡_, refl, sym, ap, _∙_}
+use mathlib.Core.Bool.{Bool, true, false, cond, _||_}
 use borrow.Author.Needs.{needs}
-use Rattle.operators.specs.Operators.{same}
+use Rattle.laws.proofs.Variants.{no-arm}
+use Rattle.operators.specs.Operators.{same, isMap}
+use Rattle.operators.specs.declared.CompositeOp.{CompositeOp}
 use Rattle.operators.specs.declared.CompositeOp.the-variants as O
-use Rattle.compose.specs.Arguments.{paramsOf}
+use Rattle.operators.proofs.CompositeOp.{enum}
+use Rattle.layers.specs.declared.Args.{Args}
+use Rattle.pixels.specs.Pixel.{unused}
+use Rattle.compose.specs.Arguments.{paramsOf, mapParams}
 use Rattle.compose.proofs.arguments.params.Statement.{statement}
 use Rattle.compose.proofs.arguments.params.Tie as tie
 
--- what is known past each test
-not-1 : (c : tie.Else1) → same (c .before .before .args .op) O.Blend ≡ false
-not-1 c = sym (c .before .is .ensures) ∙ c .if1 .left
+-- the operators that have an arm of their own
+abbrev own : CompositeOp → Bool
+own o = same o O.Blend || same o O.Dissolve || same o O.ChangeMask || same o O.Threshold || same o O.Modulate || same o O.Mathematics
 
-not-2 : (c : tie.Else2) → same (c .before .before .before .before .args .op) O.Dissolve ≡ false
-not-2 c = sym (c .before .is2 .ensures) ∙ c .if2 .left
+-- the last of the tests, if the ones before it fail
+past : {A : Type 0} (a b c d e f : Bool) (u v w x y z rest : A)
+    → false ≡ (a || b || c || d || e || f) → rest ≡ cond a u (cond b v (cond c w (cond d x (cond e y (cond f z rest)))))
+past false false false false false false u v w x y z rest h = refl
+past true b c d e f u v w x y z rest h = cc
+past false true c d e f u v w x y z rest h = cc
+past false false true d e f u v w x y z rest h = cc
+past false false false true e f u v w x y z rest h = cc
+past false false false false true f u v w x y z rest h = cc
+past false false false false false true u v w x y z rest h = cc
 
-not-3 : (c : tie.Else3) → same (c .before .before .before .before .before .before .args .op) O.ChangeMask ≡ false
-not-3 c = sym (c .before .is3 .ensures) ∙ c .if3 .left
+-- what is left of the definition in the last arm
+module _ (o : CompositeOp) (args : Args) (h : false ≡ own o) where
+  others : cond (isMap o) (mapParams args) unused ≡ paramsOf o args
+  unfolding paramsOf
+  others = past (same o O.Blend) (same o O.Dissolve) (same o O.ChangeMask) (same o O.Threshold) (same o O.Modulate) (same o O.Mathematics) _ _ _ _ _ _ _ h
 
-not-4 : (c : tie.Else4) → same (c .before .before .before .before .before .before .before .before .args .op) O.Threshold ≡ false
-not-4 c = sym (c .before .is4 .ensures) ∙ c .if4 .left
-
-not-5 : (c : tie.Else5) → same (c .before .before .before .before .before .before .before .before .before .before .args .op) O.Modulate ≡ false
-not-5 c = sym (c .before .is5 .ensures) ∙ c .if5 .left
-
-not-6 : (c : tie.Else6) → same (c .before .before .before .before .before .before .before .before .before .before .before .before .args .op) O.Mathematics ≡ false
-not-6 c = sym (c .before .is6 .ensures) ∙ c .if6 .left
+-- .. where the code stands in it
+last : (c : tie.After-is-map)
+    → cond (isMap (c .before .before .args .op)) (mapParams (c .before .before .args .args)) unused ≡ paramsOf (c .before .before .args .op) (c .before .before .args .args)
+last c = others _ _ (no-arm enum own (c .before .before .args .op) refl (c .before .match .keys7))
 
 returns : tie.Need-returns
-unfolding paramsOf
-returns c = rw (← c .before .before .is .ensures, c .before .if1 .taken) (c .blend-params .ensures)
+returns c =
+    let h = rw (← c .before .before .is-map .ensures, c .before .if1 .taken) at (last (c .before .before)) in
+    c .map-params .ensures ∙ h
+
+returns-8 : tie.Need-returns-8
+returns-8 c =
+    let h = rw (← c .before .before .is-map .ensures, c .before .if1 .left) at (last (c .before .before)) in
+    c .two .ensures ∙ h
 
 returns-2 : tie.Need-returns-2
 unfolding paramsOf
-returns-2 c = rw (not-1 (c .before .before .before), ← c .before .before .is2 .ensures, c .before .if2 .taken) (c .dissolve-params .ensures)
+returns-2 c = c .blend-params .ensures ∙ sym (ap (λ o. paramsOf o (c .before .before .before .args .args)) (c .before .enum-told .given .1))
 
 returns-3 : tie.Need-returns-3
 unfolding paramsOf
-returns-3 c = rw (not-1 (c .before .before .before .before .before), not-2 (c .before .before .before), ← c .before .before .is3 .ensures, c .before .if3 .taken) (c .mask-params .ensures)
+returns-3 c = c .dissolve-params .ensures ∙ sym (ap (λ o. paramsOf o (c .before .before .before .args .args)) (c .before .enum-told2 .given .1))
 
 returns-4 : tie.Need-returns-4
 unfolding paramsOf
-returns-4 c = rw (not-1 (c .before .before .before .before .before .before .before), not-2 (c .before .before .before .before .before), not-3 (c .before .before .before), ← c .before .before .is4 .ensures, c .before .if4 .taken) (c .threshold-params .ensures)
+returns-4 c = c .mask-params .ensures ∙ sym (ap (λ o. paramsOf o (c .before .before .before .args .args)) (c .before .enum-told3 .given .1))
 
 returns-5 : tie.Need-returns-5
 unfolding paramsOf
-returns-5 c = rw (not-1 (c .before .before .before .before .before .before .before .before .before), not-2 (c .before .before .before .before .before .before .before), not-3 (c .before .before .before .before .before), not-4 (c .before .before .before), ← c .before .before .is5 .ensures, c .before .if5 .taken) (c .modulate-params .ensures)
+returns-5 c = c .threshold-params .ensures ∙ sym (ap (λ o. paramsOf o (c .before .before .before .args .args)) (c .before .enum-told4 .given .1))
 
 returns-6 : tie.Need-returns-6
 unfolding paramsOf
-returns-6 c = rw (not-1 (c .before .before .before .before .before .before .before .before .before .before .before), not-2 (c .before .before .before .before .before .before .before .before .before), not-3 (c .before .before .before .before .before .before .before), not-4 (c .before .before .before .before .before), not-5 (c .before .before .before), ← c .before .before .is6 .ensures, c .before .if6 .taken) (c .raw-params .ensures)
+returns-6 c = c .modulate-params .ensures ∙ sym (ap (λ o. paramsOf o (c .before .before .before .args .args)) (c .before .enum-told5 .given .1))
 
 returns-7 : tie.Need-returns-7
 unfolding paramsOf
-returns-7 c = rw (not-1 (c .before .before .before .before .before .before .before .before .before .before .before .before .before), not-2 (c .before .before .before .before .before .before .before .before .before .before .before), not-3 (c .before .before .before .before .before .before .before .before .before), not-4 (c .before .before .before .before .before .before .before), not-5 (c .before .before .before .before .before), not-6 (c .before .before .before), ← c .before .before .is-map .ensures, c .before .if7 .taken) (c .map-params .ensures)
-
-returns-8 : tie.Need-returns-8
-unfolding paramsOf
-returns-8 c = rw (not-1 (c .before .before .before .before .before .before .before .before .before .before .before .before .before), not-2 (c .before .before .before .before .before .before .before .before .before .before .before), not-3 (c .before .before .before .before .before .before .before .before .before), not-4 (c .before .before .before .before .before .before .before), not-5 (c .before .before .before .before .before), not-6 (c .before .before .before), ← c .before .before .is-map .ensures, c .before .if7 .left) (c .two .ensures)
+returns-7 c = c .raw-params .ensures ∙ sym (ap (λ o. paramsOf o (c .before .before .before .args .args)) (c .before .enum-told6 .given .1))
 
 pub params-spec : {M : Type 1} → statement M
 params-spec =
     tie.close
     (tie.spec
+    (λ c. search needs)
+    (λ c κs. search needs)
+    (λ c. search needs)
+    (λ c κs. search needs)
+    (λ c. search needs)
+    (λ c κs. search needs)
+    (λ c. search needs)
+    (λ c κs. search needs)
+    (λ c. search needs)
+    (λ c κs. search needs)
+    (λ c. search needs)
+    (λ c κs. search needs)
     (λ c κs. search needs)
     (λ c κs. search needs)
     returns
     (λ c κs. search needs)
-    (λ c κs. search needs)
     returns-2
-    (λ c κs. search needs)
-    (λ c κs. search needs)
     returns-3
-    (λ c κs. search needs)
-    (λ c κs. search needs)
     returns-4
-    (λ c κs. search needs)
-    (λ c κs. search needs)
     returns-5
-    (λ c κs. search needs)
-    (λ c κs. search needs)
     returns-6
-    (λ c κs. search needs)
-    (λ c κs. search needs)
     returns-7
-    (λ c κs. search needs)
     returns-8)

@@ -14,7 +14,7 @@ returns c =
     planned (s .args .l) (s .args .dw) (s .args .dh) (s .pre .0) _ (s .pre .1) (s .pre .2) (
     rw (
       c .before .placement .ensures,
-      c .before .before .before .before .is .ensures,
+      c .before .before .before .before .displaces .ensures,
       c .before .before .before .before .before .reads-through .ensures,
       c .before .before .before .before .before .before .params .ensures,
       back {z = s .args .l .right} (omega (arith, s .pre .0 .offset-right)),

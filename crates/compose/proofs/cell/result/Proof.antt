@@ -12,7 +12,9 @@ returns c = c .map-pixel .ensures ∙ yes _ _ (c .before .if1 .taken)
 
 returns-2 : tie.Need-returns-2
 unfolding resultBy
-returns-2 c = c .pixel .ensures ∙ no _ _ (c .before .if1 .left)
+returns-2 c =
+    let painted = c .before .paint .ensures in
+    (rw (← painted .0) at (painted .1)) ∙ no _ _ (c .before .before .if1 .left)
 
 pub result-spec : {M : Type 1} → statement M
 result-spec = tie.close (tie.spec (λ c κs. search needs) returns (λ c κs. search needs) returns-2)

@@ -1,16 +1,16 @@
--- `CompositeOp::is_map` meets its contract: its tests are those of the definition. Assumes nothing.
-use borrow.Author.Needs.{needs}
+-- `CompositeOp::is_map` meets its contract: each arm's operators answer its test. Assumes nothing.
+use mathlib.Core.Path.{refl}
+use Rattle.laws.proofs.Variants.{yes-arm, no-arm}
+use Rattle.operators.specs.Operators.{isMap}
+use Rattle.operators.proofs.CompositeOp.{enum}
 use Rattle.operators.proofs.CompositeOp.is_map.Statement.{statement}
 use Rattle.operators.proofs.CompositeOp.is_map.Tie as tie
 
 returns : tie.Need-returns
-returns c = rw (← c .before .is .ensures, c .if1 .taken)
+returns c = yes-arm enum isMap (c .before .args .self) refl (c .match .keys1)
 
 returns-2 : tie.Need-returns-2
-returns-2 c = rw (← c .before .before .before .is .ensures, c .before .before .if1 .left, ← c .before .is2 .ensures, c .if2 .taken)
-
-returns-3 : tie.Need-returns-3
-returns-3 c = rw (← c .before .before .before .before .is .ensures, c .before .before .before .if1 .left, ← c .before .before .is2 .ensures, c .before .if2 .left) (c .is3 .ensures)
+returns-2 c = no-arm enum isMap (c .before .args .self) refl (c .match .keys2)
 
 pub is-map-spec : {M : Type 1} → statement M
-is-map-spec = tie.close (tie.spec (λ c κs. search needs) returns (λ c κs. search needs) returns-2 (λ c κs. search needs) returns-3)
+is-map-spec = tie.close (tie.spec returns returns-2)
