@@ -1,5 +1,6 @@
 // Writes crates/float_vectors/stdin: what each float step must give, worked out by Rust's std on this machine,
-// whose f32 is IEEE 754 binary32. Run:
+// whose f32 is IEEE 754 binary32, a row a line in the form of oracle/README.md; and spoiled rows, out of form or with
+// another result, which whoever compares must not take. Run:
 //
 //     rustc -O -o target/vectors tools/float-vectors/vectors.rs
 //     target/vectors > crates/float_vectors/stdin
@@ -36,6 +37,48 @@ fn word(v: f32) -> u64 {
 
 struct Out {
     rows: Vec<[u64; 5]>,
+}
+
+// A row: its step's letter, three operands and the result.
+fn line(r: &[u64; 5]) -> String {
+    format!("{} {:x} {:x} {:x} {:x}", (b'a' + r[0] as u8) as char, r[1], r[2], r[3], r[4])
+}
+
+// Of the first and the last row of each step, what must not be taken: the result one off either way, a bit of it
+// changed, another result after it, none, one with a zero before it, in capitals, over 32 bits; a row of another step,
+// with an operand too few or too many, one over 32 bits; with two spaces, one at the end; an empty row, a lone letter.
+fn spoiled(rows: &[[u64; 5]]) -> Vec<String> {
+    let mut all = Vec::new();
+    for step in 0..NAMES.len() as u64 {
+        let own: Vec<_> = rows.iter().filter(|r| r[0] == step).collect();
+        for r in [own[0], own[own.len() - 1]] {
+            let with = |result: u64| line(&[r[0], r[1], r[2], r[3], result]);
+            all.push(with(r[4].wrapping_add(1)));
+            all.push(with(r[4].wrapping_sub(1)));
+            all.push(with(r[4] ^ 0x8000_0000));
+        }
+        let r = own[own.len() / 2];
+        let right = line(r);
+        let asked = right.rsplit_once(' ').unwrap().0;
+        all.push(format!("{right} 0"));
+        all.push(asked.to_string());
+        all.push(format!("{asked} "));
+        all.push(format!("{asked} 0{:x}", r[4]));
+        all.push(format!("{asked} {:x}", r[4] ^ 1 << 32));
+        all.push(format!("{asked} 0 {:x}", r[4]));
+        all.push(format!("{} {:x} {:x} {:x}", &right[..1], r[1], r[2], r[4]));
+        all.push(format!("{} {:x} {:x} {:x} {:x}", &right[..1], r[1] | 1 << 32, r[2], r[3], r[4]));
+        all.push(format!("{right} "));
+        all.push(right.replacen(' ', "  ", 1));
+        all.push(format!("r{}", &right[1..]));
+        all.push(format!("A{}", &right[1..]));
+        if right[1..] != right[1..].to_uppercase() {
+            all.push(format!("{}{}", &right[..1], right[1..].to_uppercase()));
+        }
+        all.push(right[..1].to_string());
+    }
+    all.push(String::new());
+    all
 }
 
 impl Out {
@@ -203,20 +246,16 @@ fn main() {
         for (k, name) in NAMES.iter().enumerate() {
             println!("{}: {} right, 0 wrong", name, out.rows.iter().filter(|r| r[0] == k as u64).count());
         }
+        println!("spoiled rows: {} right, 0 wrong", spoiled(&out.rows).len());
+        println!("rows of no step: 0 right, 0 wrong");
         return;
     }
-    // lines of one length, which the program reads one after another
-    let head = [
-        "# what each float step must give; written by  ",
-        "# tools/float-vectors/vectors.rs with Rust's  ",
-        "# std on IEEE 754 hardware: step, operands,   ",
-        "# result, in hexadecimal                      ",
-    ];
-    for line in head {
-        assert!(line.len() == 46);
-        println!("{}", line);
-    }
+    println!("# what each float step must give; written by tools/float-vectors/vectors.rs with Rust's std on IEEE 754 hardware");
     for r in &out.rows {
-        println!("{:02x} {:08x} {:08x} {:08x} {:016x}", r[0], r[1], r[2], r[3], r[4]);
+        println!("{}", line(r));
+    }
+    println!("# spoiled");
+    for row in spoiled(&out.rows) {
+        println!("!{row}");
     }
 }

@@ -1,11 +1,8 @@
 // How a line of the fixed vectors is read: tokens, numbers and lists (oracle/README.md has their form). A function is given the line and a place in
-// it, and answers the next place. Once something is malformed, or is not what was expected, the place is NOWHERE, and it stays NOWHERE. And how lines are
-// counted.
-mod counting;
+// it, and answers the next place. Once something is malformed, or is not what was expected, the place is NOWHERE, and it stays NOWHERE.
 mod lists;
 mod numbers;
 
-pub use counting::tally;
 pub use lists::bytes;
 pub use lists::first_bytes;
 pub use lists::first_integers;
@@ -20,6 +17,7 @@ pub use numbers::Integer;
 pub use numbers::Unsigned;
 pub use numbers::expect;
 pub use numbers::number;
+pub use numbers::number_up_to;
 pub use numbers::signed;
 
 pub const NOWHERE: usize = 0xffff_ffff_ffff_ffff;

@@ -22,12 +22,6 @@ pub name-listed : {l m : Listed ℕ} (line : List ℕ) → l ≡ m → namedAt l
 unfolding nameBy
 name-listed line read = rw (← read)
 
--- a place after a test is somewhere only where the test holds and the place was somewhere before it
-pub passed : (t : Bool) (x : ℕ) {r : ℕ} → r ≡ ifSame t x → (r ≡ nowhere → ⊥) → (t ≡ true) × (x ≡ nowhere → ⊥)
-unfolding ifSame
-passed true x e some = (refl, λ z. some (e ∙ z))
-passed false x e some = absurd (some e)
-
 -- a narrowing, from what was read: its list, the length of its output, and what is wanted
 module _ (toBytes : Bool) (line : List ℕ) where
   length-read : (v : ℤ) (l : Listed ℕ) (n : Unsigned) → n ≡ numberAt largest line (l .next)

@@ -1,8 +1,6 @@
 -- What a line of a job asks, call after call, and where its answers end. Definitions only.
 use mathlib.Core.List.{List, [], _∷_}
-use mathlib.Core.Path.{_≡_}
 use Prim.Native.Nat.{ℕ}
-use lib.ListN.{getD}
 use Rattle.vector_lines.specs.Numbers.{expectedAt}
 use Rattle.layers.specs.Inputs.{Inputs}
 use Rattle.job.specs.Memory.{Mem, memOf, positionOf}
@@ -33,7 +31,3 @@ callAt line inputs allowance p = outcomeAt line (p .next) (jobOutcome (callOf in
 unfoldable pub callsAt : List ℕ → Inputs → List ℕ → Played → Played
 callsAt line inputs [] p = p
 callsAt line inputs (allowance ∷ rest) p = callsAt line inputs rest (callAt line inputs allowance p)
-
--- the marks are the same: each of the four numbers that there is room for
-abbrev pub SameMark : List ℕ → List ℕ → Type 0
-SameMark a b = (getD a 0 0 ≡ getD b 0 0) × (getD a 1 0 ≡ getD b 1 0) × (getD a 2 0 ≡ getD b 2 0) × (getD a 3 0 ≡ getD b 3 0)

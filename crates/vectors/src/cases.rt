@@ -8,16 +8,6 @@ ghost use Rattle.layers.specs.Inputs.{inputsOf};
 ghost use Rattle.compose.specs.Single.{composeOf};
 ghost use Rattle.tray.specs.Answers.{nameOf};
 ghost use Rattle.vectors.specs.Cases.{nameAt, namedAt, writtenAt, narrowingAt, narrowedAt, narrowedBytesAt, composedAt};
-use crate::rooms::AT_ARGS;
-use crate::rooms::AT_DST;
-use crate::rooms::AT_SAMPLES;
-use crate::rooms::AT_TABLE;
-use crate::rooms::Args;
-use crate::rooms::Counts;
-use crate::rooms::OUT;
-use crate::rooms::Picture;
-use crate::rooms::Samples;
-use crate::rooms::Table;
 use vector_lines::NOWHERE;
 use vector_lines::bytes;
 use vector_lines::expect;
@@ -25,11 +15,23 @@ use vector_lines::first_bytes;
 use vector_lines::first_integers;
 use vector_lines::first_words;
 use vector_lines::if_same;
-use vector_lines::integers;
 use vector_lines::number;
 use vector_lines::same_words;
 use vector_lines::signed;
 use vector_lines::words;
+use vector_rooms::AT_ARGS;
+use vector_rooms::AT_DST;
+use vector_rooms::AT_SAMPLES;
+use vector_rooms::AT_TABLE;
+use vector_rooms::Args;
+use vector_rooms::Counts;
+use vector_rooms::OUT;
+use vector_rooms::Picture;
+use vector_rooms::Samples;
+use vector_rooms::Shape;
+use vector_rooms::Table;
+use vector_rooms::layers;
+use vector_rooms::shape_of;
 
 // What an output holds before it is lent.
 const FILL: u32 = 0xa5a5_a5a5;
@@ -105,43 +107,6 @@ fn written_bytes(line: &[u8], at: usize, out: &[u8]) -> usize
     let mut count = out.len();
     let next = bytes(line, at, &mut due, &mut count);
     if_same(check::same(first_bytes(&due, count), out), next)
-}
-
-// The lists of the layers: TABLE ARGS SAMPLES.
-pub fn layers(
-    line: &[u8],
-    at: usize,
-    table: &mut Table,
-    args: &mut Args,
-    samples: &mut Samples,
-    counts: &mut Counts,
-) -> usize {
-    let after_table = integers(line, at, table, &mut counts[AT_TABLE]);
-    let after_args = words(line, after_table, args, &mut counts[AT_ARGS]);
-    words(line, after_args, samples, &mut counts[AT_SAMPLES])
-}
-
-// A destination's sides and channels, and the place after them.
-pub struct Shape {
-    pub width: i64,
-    pub height: i64,
-    pub channels: i64,
-    pub next: usize,
-}
-
-pub fn shape_of(line: &[u8]) -> Shape {
-    let width = signed(line, 1);
-    let height = signed(line, width.next);
-    let channels = signed(line, height.next);
-    let w = width.value;
-    let h = height.value;
-    let c = channels.value;
-    Shape {
-        width: w,
-        height: h,
-        channels: c,
-        next: channels.next,
-    }
 }
 
 // C width height channels DST TABLE ARGS SAMPLES length: number OUT.

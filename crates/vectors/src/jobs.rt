@@ -1,36 +1,34 @@
 // The lines of jobs: calls one after the other on the same work buffers and mark.
-ghost use mathlib.Core.Bool.{true};
 ghost use mathlib.Core.Path.{_≡_};
 ghost use lib.ListN.{getD};
 ghost use Rattle.layers.specs.Inputs.{inputsOf};
-ghost use Rattle.vector_lines.specs.Numbers.{nowhere};
-ghost use Rattle.vectors.specs.Jobs.{played, callAt, callsAt, SameMark};
-use crate::cases::Shape;
-use crate::cases::layers;
-use crate::cases::shape_of;
-use crate::rooms::AT_ARGS;
-use crate::rooms::AT_DST;
-use crate::rooms::AT_MARK;
-use crate::rooms::AT_SAMPLES;
-use crate::rooms::AT_TABLE;
-use crate::rooms::AT_WORK0;
-use crate::rooms::AT_WORK1;
-use crate::rooms::Args;
-use crate::rooms::Counts;
-use crate::rooms::Mark;
-use crate::rooms::Picture;
-use crate::rooms::Samples;
-use crate::rooms::Table;
+ghost use Rattle.vectors.specs.Jobs.{played, callAt, callsAt};
 use vector_lines::NOWHERE;
 use vector_lines::expect;
 use vector_lines::first_integers;
 use vector_lines::first_longs;
 use vector_lines::first_words;
-use vector_lines::if_same;
 use vector_lines::longs;
-use vector_lines::same_words;
 use vector_lines::signed;
 use vector_lines::words;
+use vector_rooms::AT_ARGS;
+use vector_rooms::AT_DST;
+use vector_rooms::AT_MARK;
+use vector_rooms::AT_SAMPLES;
+use vector_rooms::AT_TABLE;
+use vector_rooms::AT_WORK0;
+use vector_rooms::AT_WORK1;
+use vector_rooms::Args;
+use vector_rooms::Counts;
+use vector_rooms::Mark;
+use vector_rooms::Picture;
+use vector_rooms::Samples;
+use vector_rooms::Shape;
+use vector_rooms::Table;
+use vector_rooms::layers;
+use vector_rooms::left;
+use vector_rooms::memory;
+use vector_rooms::shape_of;
 
 // J width height channels DST layers TABLE ARGS SAMPLES WORK0 WORK1 MARK ALLOWANCES: number layer stores finished mark for each call, WORK0 WORK1 MARK.
 pub fn job(
@@ -66,20 +64,6 @@ pub fn job(
         mark,
         counts,
     )
-}
-
-// The memory that a job's calls share: WORK0 WORK1 MARK.
-fn memory(
-    line: &[u8],
-    at: usize,
-    work0: &mut Picture,
-    work1: &mut Picture,
-    mark: &mut Mark,
-    counts: &mut Counts,
-) -> usize {
-    let after_work0 = words(line, at, work0, &mut counts[AT_WORK0]);
-    let after_work1 = words(line, after_work0, work1, &mut counts[AT_WORK1]);
-    longs(line, after_work1, mark, &mut counts[AT_MARK])
 }
 
 // Reads the memory and the allowances, makes the calls, and holds the memory that they leave against what the line says.
@@ -130,57 +114,6 @@ fn played(
         mark,
         counts,
     )
-}
-
-fn same_mark(a: &Mark, b: &Mark) -> bool
-    ensures { λ r. ⌜ (r ≡ true → SameMark (now (a .entry)) (now (b .entry))) ⌝ }
-{
-    if a[0] != b[0] {
-        return false;
-    }
-    if a[1] != b[1] {
-        return false;
-    }
-    if a[2] != b[2] {
-        return false;
-    }
-    a[3] == b[3]
-}
-
-// The place after the memory that must be left, which is kept for the next line.
-fn left(
-    line: &[u8],
-    at: usize,
-    due0: &mut Picture,
-    due1: &mut Picture,
-    due_mark: &mut Mark,
-    work0: &mut Picture,
-    work1: &mut Picture,
-    mark: &mut Mark,
-    counts: &mut Counts,
-) -> usize
-    ensures { λ r. ⌜ ((r ≡ nowhere → ⊥) → (now (work0 .exit) ≡ now (work0 .entry)) × (now (work1 .exit) ≡ now (work1 .entry)) × SameMark (now (mark .exit)) (now (mark .entry))) ⌝ }
-{
-    let n0 = counts[AT_WORK0];
-    let n1 = counts[AT_WORK1];
-    let n = counts[AT_MARK];
-    let next = memory(line, at, due0, due1, due_mark, counts);
-    let after0 = if_same(
-        counts[AT_WORK0] == n0,
-        if_same(same_words(due0, work0), next),
-    );
-    let after1 = if_same(
-        counts[AT_WORK1] == n1,
-        if_same(same_words(due1, work1), after0),
-    );
-    let place = if_same(
-        counts[AT_MARK] == n,
-        if_same(same_mark(due_mark, mark), after1),
-    );
-    *work0 = *due0;
-    *work1 = *due1;
-    *mark = *due_mark;
-    place
 }
 
 // The calls, each with its allowance, on the parts of the memory that are lent.

@@ -1,0 +1,112 @@
+-- The lists that lines share (oracle/README.md): each is read over what it was, and its count stands at its place among the counts: DST 0, TABLE 1, ARGS 2,
+-- SAMPLES 3, INPUT 4, WORK0 5, WORK1 6, MARK 7. Definitions only.
+use mathlib.Core.Bool.{Bool}
+use mathlib.Core.List.{List}
+use Prim.Native.Nat.{ℕ}
+use lib.Dec.{eqb}
+use lib.IntN.{ℤ}
+use lib.ListN.{getD, set}
+use Rattle.vector_lines.specs.declared.numbers.Integer.{Integer}
+use Rattle.vector_lines.specs.Numbers.{largest, signedAt}
+use Rattle.vector_lines.specs.Lists.{Listed, numbersAt, integersAt, same, ifSame}
+use Rattle.vector_rooms.specs.declared.Shape.{Shape}
+
+-- ---- width height channels
+
+abbrev pub shapeOf : (width height channels : Integer) → Shape
+shapeOf width height channels =
+    record { width = width .value; height = height .value; channels = channels .value; next = channels .next }
+
+unfoldable pub channelsAt : List ℕ → (width height : Integer) → Shape
+channelsAt line width height = shapeOf width height (signedAt line (height .next))
+
+unfoldable pub heightAt : List ℕ → (width : Integer) → Shape
+heightAt line width = channelsAt line width (signedAt line (width .next))
+
+abbrev pub shapeAt : List ℕ → Shape
+shapeAt line = heightAt line (signedAt line 1)
+
+-- ---- TABLE ARGS SAMPLES
+
+-- a place in a line, the lists and all the counts
+pub record Layered : Type 0 where
+  pub next : ℕ
+  pub table : List ℤ
+  pub args : List ℕ
+  pub samples : List ℕ
+  pub counts : List ℕ
+
+abbrev pub layered : ℕ → List ℤ → (args samples counts : List ℕ) → Layered
+layered next table args samples counts = record { next = next; table = table; args = args; samples = samples; counts = counts }
+
+abbrev pub withTable : Layered → Listed ℤ → Layered
+withTable s l = layered (l .next) (l .list) (s .args) (s .samples) (set (s .counts) 1 (l .count))
+
+abbrev pub withArgs : Layered → Listed ℕ → Layered
+withArgs s l = layered (l .next) (s .table) (l .list) (s .samples) (set (s .counts) 2 (l .count))
+
+abbrev pub withSamples : Layered → Listed ℕ → Layered
+withSamples s l = layered (l .next) (s .table) (s .args) (l .list) (set (s .counts) 3 (l .count))
+
+unfoldable pub tableAt : List ℕ → Layered → Layered
+tableAt line s = withTable s (integersAt line (s .next) (s .table) (getD (s .counts) 1 0))
+
+unfoldable pub argsAt : List ℕ → Layered → Layered
+argsAt line s = withArgs s (numbersAt 4294967295 line (s .next) (s .args) (getD (s .counts) 2 0))
+
+unfoldable pub samplesAt : List ℕ → Layered → Layered
+samplesAt line s = withSamples s (numbersAt 4294967295 line (s .next) (s .samples) (getD (s .counts) 3 0))
+
+abbrev pub layersAt : List ℕ → Layered → Layered
+layersAt line s = samplesAt line (argsAt line (tableAt line s))
+
+-- ---- WORK0 WORK1 MARK
+
+pub record Worked : Type 0 where
+  pub next : ℕ
+  pub work0 : List ℕ
+  pub work1 : List ℕ
+  pub mark : List ℕ
+  pub counts : List ℕ
+
+abbrev pub worked : ℕ → (work0 work1 mark counts : List ℕ) → Worked
+worked next work0 work1 mark counts = record { next = next; work0 = work0; work1 = work1; mark = mark; counts = counts }
+
+abbrev pub withWork0 : Worked → Listed ℕ → Worked
+withWork0 s l = worked (l .next) (l .list) (s .work1) (s .mark) (set (s .counts) 5 (l .count))
+
+abbrev pub withWork1 : Worked → Listed ℕ → Worked
+withWork1 s l = worked (l .next) (s .work0) (l .list) (s .mark) (set (s .counts) 6 (l .count))
+
+abbrev pub withMark : Worked → Listed ℕ → Worked
+withMark s l = worked (l .next) (s .work0) (s .work1) (l .list) (set (s .counts) 7 (l .count))
+
+unfoldable pub work0At : List ℕ → Worked → Worked
+work0At line s = withWork0 s (numbersAt 4294967295 line (s .next) (s .work0) (getD (s .counts) 5 0))
+
+unfoldable pub work1At : List ℕ → Worked → Worked
+work1At line s = withWork1 s (numbersAt 4294967295 line (s .next) (s .work1) (getD (s .counts) 6 0))
+
+unfoldable pub markAt : List ℕ → Worked → Worked
+markAt line s = withMark s (numbersAt largest line (s .next) (s .mark) (getD (s .counts) 7 0))
+
+abbrev pub memoryAt : List ℕ → Worked → Worked
+memoryAt line s = markAt line (work1At line (work0At line s))
+
+-- the place after a list that must be `got`: it has as many elements as before, and the same
+abbrev pub asBefore : (at : ℕ) → (before after : List ℕ) → (due got : List ℕ) → (next : ℕ) → ℕ
+asBefore at before after due got next = ifSame (eqb (getD after at 0) (getD before at 0)) (ifSame (same due got) next)
+
+-- the memory that must be left, `due`, once it is read: its place, if it is what the calls left, and the memory, which is kept for the next line
+unfoldable pub leftBy : (counts work0 work1 mark : List ℕ) → (due : Worked) → Worked
+leftBy counts work0 work1 mark due =
+    worked
+    (asBefore 7 counts (due .counts) (due .mark) mark
+    (asBefore 6 counts (due .counts) (due .work1) work1 (asBefore 5 counts (due .counts) (due .work0) work0 (due .next))))
+    (due .work0)
+    (due .work1)
+    (due .mark)
+    (due .counts)
+
+abbrev pub leftAt : List ℕ → Worked → (work0 work1 mark : List ℕ) → Worked
+leftAt line due work0 work1 mark = leftBy (due .counts) work0 work1 mark (memoryAt line due)

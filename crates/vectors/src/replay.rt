@@ -1,0 +1,87 @@
+// The lines of a text, one after the other: each is asked of the library, and the place is kept where its answer ends.
+use crate::cases::composition;
+use crate::cases::name;
+use crate::cases::narrowing;
+use crate::jobs::job;
+use vector_lines::NOWHERE;
+use vector_rooms::AT_INPUT;
+use vector_rooms::Args;
+use vector_rooms::Counts;
+use vector_rooms::Mark;
+use vector_rooms::Picture;
+use vector_rooms::Samples;
+use vector_rooms::Table;
+use verdicts::asked;
+use verdicts::count_lines;
+use verdicts::first;
+use verdicts::line_end;
+use verdicts::put_place;
+
+// The place after the last token of a line, or NOWHERE.
+fn replayed(
+    line: &[u8],
+    dst: &mut Picture,
+    table: &mut Table,
+    args: &mut Args,
+    samples: &mut Samples,
+    input: &mut Picture,
+    work0: &mut Picture,
+    work1: &mut Picture,
+    mark: &mut Mark,
+    counts: &mut Counts,
+) -> usize {
+    match first(line) {
+        b'F' => name(line),
+        b'N' => narrowing(line, false, input, &mut counts[AT_INPUT]),
+        b'B' => narrowing(line, true, input, &mut counts[AT_INPUT]),
+        b'C' => composition(line, dst, table, args, samples, counts),
+        b'J' => job(line, dst, table, args, samples, work0, work1, mark, counts),
+        _ => NOWHERE,
+    }
+}
+
+// Replays every line and keeps where its answer ends.
+fn replay(text: &[u8], places: &mut [usize]) {
+    let mut dst: Picture = [0; 256];
+    let mut table: Table = [0; 320];
+    let mut args: Args = [0; 128];
+    let mut samples: Samples = [0; 2048];
+    let mut input: Picture = [0; 256];
+    let mut work0: Picture = [0; 256];
+    let mut work1: Picture = [0; 256];
+    let mut mark: Mark = [0; 4];
+    let mut counts: Counts = [0; 8];
+    let mut i: usize = 0;
+    let mut from: usize = 0;
+    while from < text.len() {
+        let end = line_end(text, from);
+        let place = replayed(
+            asked(&text[from..end]),
+            &mut dst,
+            &mut table,
+            &mut args,
+            &mut samples,
+            &mut input,
+            &mut work0,
+            &mut work1,
+            &mut mark,
+            &mut counts,
+        );
+        put_place(places, i, place);
+        i += 1;
+        from = end + 1;
+    }
+}
+
+// Replays the lines of a text and counts those that are right and those that are wrong, by their kinds' letters; the number of the first that is wrong, 0
+// where none is.
+pub fn judge(
+    text: &[u8],
+    places: &mut [usize],
+    kinds: &[u8],
+    right: &mut [u64],
+    wrong: &mut [u64],
+) -> u64 {
+    replay(text, places);
+    count_lines(text, places, kinds, right, wrong)
+}
