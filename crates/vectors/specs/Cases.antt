@@ -3,15 +3,18 @@ use mathlib.Core.Bool.{Bool, cond}
 use mathlib.Core.List.{List}
 use Prim.Native.Nat.{ℕ}
 use lib.Dec.{ltb}
-use lib.IntN.{ℤ}
-use lib.ListN.{length, take, replicate}
+use lib.IntN.{ℤ, pos}
+use lib.ListN.{length, getD, set, take, replicate}
 use Rattle.vector_lines.specs.declared.numbers.Integer.{Integer}
 use Rattle.vector_lines.specs.declared.numbers.Unsigned.{Unsigned}
 use Rattle.vector_lines.specs.Numbers.{nowhere, largest, numberAt, expectedAt, signedAt}
 use Rattle.vector_lines.specs.Lists.{Listed, numbersAt, same, ifSame}
+use Rattle.vector_rooms.specs.declared.Shape.{Shape}
+use Rattle.vector_rooms.specs.Rooms.{shapeAt, Layered, layered, layersAt}
 use Rattle.names.specs.Names.{fromName}
 use Rattle.narrowing.specs.Narrow.{Narrowed, narrowOf, narrowBytesOf}
-use Rattle.compose.specs.Single.{Composed}
+use Rattle.layers.specs.Inputs.{Inputs, inputsOf}
+use Rattle.compose.specs.Single.{Composed, composeOf}
 use Rattle.tray.specs.Answers.{NameAnswer, nameOf}
 
 -- what a list has that was read
@@ -74,6 +77,10 @@ unfoldable pub narrowingAfter : (toBytes : Bool) → List ℕ → Integer → Li
 narrowingAfter toBytes line wanted input count =
     narrowingFrom toBytes line (wanted .value) (numbersAt 4294967295 line (wanted .next) input count)
 
+-- INPUT, which is kept
+abbrev pub inputAt : List ℕ → List ℕ → ℕ → Listed ℕ
+inputAt line = numbersAt 4294967295 line (signedAt line 1 .next)
+
 abbrev pub narrowingAt : (toBytes : Bool) → List ℕ → List ℕ → ℕ → ℕ
 narrowingAt toBytes line = narrowingAfter toBytes line (signedAt line 1)
 
@@ -81,3 +88,50 @@ narrowingAt toBytes line = narrowingAfter toBytes line (signedAt line 1)
 
 abbrev pub composedAt : List ℕ → ℕ → Composed → ℕ
 composedAt line at c = wordsAfter line at (c .number) (c .output)
+
+-- length: number OUT
+unfoldable pub composedBy : List ℕ → Inputs → Unsigned → ℕ
+composedBy line inputs length =
+    cond (ltb 256 (length .value)) nowhere (composedAt line (length .next) (composeOf inputs (lentOf 2779096485 (length .value))))
+
+-- a place in a line, DST and the lists of the layers, and all the counts
+pub record Composing : Type 0 where
+  pub next : ℕ
+  pub dst : List ℕ
+  pub table : List ℤ
+  pub args : List ℕ
+  pub samples : List ℕ
+  pub counts : List ℕ
+
+abbrev pub composing : ℕ → List ℕ → List ℤ → (args samples counts : List ℕ) → Composing
+composing next dst table args samples counts =
+    record { next = next; dst = dst; table = table; args = args; samples = samples; counts = counts }
+
+abbrev pub withDst : Composing → Listed ℕ → Composing
+withDst s l = composing (l .next) (l .list) (s .table) (s .args) (s .samples) (set (s .counts) 0 (l .count))
+
+abbrev pub withLayers : Composing → Layered → Composing
+withLayers s l = composing (l .next) (s .dst) (l .table) (l .args) (l .samples) (l .counts)
+
+unfoldable pub dstAt : List ℕ → Composing → Composing
+dstAt line s = withDst s (numbersAt 4294967295 line (s .next) (s .dst) (getD (s .counts) 0 0))
+
+unfoldable pub listsAt : List ℕ → Composing → Composing
+listsAt line s = withLayers s (layersAt line (layered (s .next) (s .table) (s .args) (s .samples) (s .counts)))
+
+-- the inputs that the lists have, with a count of layers
+abbrev pub inputsBy : Shape → ℤ → Composing → Inputs
+inputsBy shape layers s =
+    inputsOf (shape .width) (shape .height) (shape .channels) (take (getD (s .counts) 0 0) (s .dst)) layers (take (getD (s .counts) 1 0) (s .table)) (take (getD (s .counts) 2 0) (s .args)) (take (getD (s .counts) 3 0) (s .samples))
+
+-- C width height channels DST TABLE ARGS SAMPLES length: number OUT
+unfoldable pub answeredAt : List ℕ → Shape → Composing → Composing
+answeredAt line shape s =
+    composing (composedBy line (inputsBy shape (pos 1) s) (numberAt largest line (s .next))) (s .dst) (s .table) (s .args) (s .samples) (s .counts)
+
+unfoldable pub compositionBy : List ℕ → Shape → Composing → Composing
+compositionBy line shape s =
+    answeredAt line shape (listsAt line (dstAt line (composing (shape .next) (s .dst) (s .table) (s .args) (s .samples) (s .counts))))
+
+abbrev pub compositionAt : List ℕ → Composing → Composing
+compositionAt line = compositionBy line (shapeAt line)

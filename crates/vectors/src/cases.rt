@@ -2,12 +2,13 @@
 // after the line's last token, or NOWHERE where the line is malformed or its answer is another.
 ghost use mathlib.Core.Path.{_≡_};
 ghost use lib.IntN.{pos};
+ghost use Rattle.vector_lines.specs.Numbers.{largest, numberAt};
 ghost use Rattle.names.specs.Names.{fromName};
 ghost use Rattle.narrowing.specs.Narrow.{narrowOf, narrowBytesOf};
 ghost use Rattle.layers.specs.Inputs.{inputsOf};
 ghost use Rattle.compose.specs.Single.{composeOf};
 ghost use Rattle.tray.specs.Answers.{nameOf};
-ghost use Rattle.vectors.specs.Cases.{nameAt, namedAt, writtenAt, narrowingAt, narrowedAt, narrowedBytesAt, composedAt};
+ghost use Rattle.vectors.specs.Cases.{nameAt, namedAt, writtenAt, narrowingAt, narrowedAt, narrowedBytesAt, inputAt, composedAt, composedBy, composing, compositionAt};
 use vector_lines::NOWHERE;
 use vector_lines::bytes;
 use vector_lines::expect;
@@ -59,6 +60,8 @@ fn named(line: &[u8], at: usize, text: &[u8]) -> usize
 // N or B, to words or to bytes, wanted INPUT length: number OUT.
 pub fn narrowing(line: &[u8], as_bytes: bool, input: &mut Picture, count: &mut usize) -> usize
     ensures { λ r. ⌜ r ≡ narrowingAt «as_bytes» (now (line .entry)) (now (input .entry)) (now (count .entry)) ⌝ }
+    ensures { λ _. ⌜ now (input .exit) ≡ inputAt (now (line .entry)) (now (input .entry)) (now (count .entry)) .list ⌝ }
+    ensures { λ _. ⌜ now (count .exit) ≡ inputAt (now (line .entry)) (now (input .entry)) (now (count .entry)) .count ⌝ }
 {
     let wanted = signed(line, 1);
     let length = number(line, words(line, wanted.next, input, count));
@@ -117,7 +120,9 @@ pub fn composition(
     args: &mut Args,
     samples: &mut Samples,
     counts: &mut Counts,
-) -> usize {
+) -> usize
+    ensures { λ r. ⌜ composing r (now (dst .exit)) (now (table .exit)) (now (args .exit)) (now (samples .exit)) (now (counts .exit)) ≡ compositionAt (now (line .entry)) (composing 0 (now (dst .entry)) (now (table .entry)) (now (args .entry)) (now (samples .entry)) (now (counts .entry))) ⌝ }
+{
     let shape = shape_of(line);
     let after_dst = words(line, shape.next, dst, &mut counts[AT_DST]);
     let after_lists = layers(line, after_dst, table, args, samples, counts);
@@ -140,7 +145,9 @@ fn composed(
     table: &[i64],
     args: &[u32],
     samples: &[u32],
-) -> usize {
+) -> usize
+    ensures { λ r. ⌜ r ≡ composedBy (now (line .entry)) (inputsOf (shape .width) (shape .height) (shape .channels) (now (dst .entry)) (pos 1) (now (table .entry)) (now (args .entry)) (now (samples .entry))) (numberAt largest (now (line .entry)) at) ⌝ }
+{
     let length = number(line, at);
     if length.value > OUT as u64 {
         return NOWHERE;

@@ -1,8 +1,11 @@
 // The lines of jobs: calls one after the other on the same work buffers and mark.
 ghost use mathlib.Core.Path.{_≡_};
 ghost use lib.ListN.{getD};
+ghost use Rattle.vector_rooms.specs.Rooms.{worked};
 ghost use Rattle.layers.specs.Inputs.{inputsOf};
-ghost use Rattle.vectors.specs.Jobs.{played, callAt, callsAt};
+ghost use Rattle.job.specs.Memory.{memOf};
+ghost use Rattle.vectors.specs.Jobs.{played, callAt, callsAt, calledAt, playedAt, jobbed, jobAt};
+ghost use Rattle.vectors.specs.Cases.{composing};
 use vector_lines::NOWHERE;
 use vector_lines::expect;
 use vector_lines::first_integers;
@@ -41,7 +44,9 @@ pub fn job(
     work1: &mut Picture,
     mark: &mut Mark,
     counts: &mut Counts,
-) -> usize {
+) -> usize
+    ensures { λ r. ⌜ jobbed (now (dst .exit)) (now (table .exit)) (now (args .exit)) (now (samples .exit)) (worked r (now (work0 .exit)) (now (work1 .exit)) (now (mark .exit)) (now (counts .exit))) ≡ jobAt (now (line .entry)) (composing 0 (now (dst .entry)) (now (table .entry)) (now (args .entry)) (now (samples .entry)) (now (counts .entry))) (memOf (now (work0 .entry)) (now (work1 .entry)) (now (mark .entry))) ⌝ }
+{
     let shape = shape_of(line);
     let after_dst = words(line, shape.next, dst, &mut counts[AT_DST]);
     let count = signed(line, after_dst);
@@ -80,7 +85,9 @@ fn played(
     work1: &mut Picture,
     mark: &mut Mark,
     counts: &mut Counts,
-) -> usize {
+) -> usize
+    ensures { λ r. ⌜ worked r (now (work0 .exit)) (now (work1 .exit)) (now (mark .exit)) (now (counts .exit)) ≡ playedAt (now (line .entry)) (inputsOf (shape .width) (shape .height) (shape .channels) (now (dst .entry)) layers (now (table .entry)) (now (args .entry)) (now (samples .entry))) (worked at (now (work0 .entry)) (now (work1 .entry)) (now (mark .entry)) (now (counts .entry))) ⌝ }
+{
     let after_memory = memory(line, at, work0, work1, mark, counts);
     let mut allowances = [0u64; 16];
     let mut calls: usize = 0;
@@ -131,7 +138,9 @@ fn called(
     work1: &mut [u32],
     mark: &mut [u64],
     counts: &Counts,
-) -> usize {
+) -> usize
+    ensures { λ r. ⌜ played r (now (work0 .exit)) (now (work1 .exit)) (now (mark .exit)) ≡ calledAt (now (line .entry)) (inputsOf (shape .width) (shape .height) (shape .channels) (now (dst .entry)) layers (now (table .entry)) (now (args .entry)) (now (samples .entry))) (now (allowances .entry)) (now (counts .entry)) (played at (now (work0 .entry)) (now (work1 .entry)) (now (mark .entry))) ⌝ }
+{
     let n0 = counts[AT_WORK0];
     let n1 = counts[AT_WORK1];
     let n = counts[AT_MARK];

@@ -1,4 +1,7 @@
 // The lines of a text, one after the other: each is asked of the library, and the place is kept where its answer ends.
+ghost use mathlib.Core.Path.{_≡_};
+ghost use Rattle.verdicts.specs.Lines.{linesOf, counted, linesCounted};
+ghost use Rattle.vectors.specs.Replay.{kept, nothingKept, answer, replayedAt, placesFrom};
 use crate::cases::composition;
 use crate::cases::name;
 use crate::cases::narrowing;
@@ -29,7 +32,9 @@ fn replayed(
     work1: &mut Picture,
     mark: &mut Mark,
     counts: &mut Counts,
-) -> usize {
+) -> usize
+    ensures { λ r. ⌜ answer r (kept (now (dst .exit)) (now (table .exit)) (now (args .exit)) (now (samples .exit)) (now (input .exit)) (now (work0 .exit)) (now (work1 .exit)) (now (mark .exit)) (now (counts .exit))) ≡ replayedAt (now (line .entry)) (kept (now (dst .entry)) (now (table .entry)) (now (args .entry)) (now (samples .entry)) (now (input .entry)) (now (work0 .entry)) (now (work1 .entry)) (now (mark .entry)) (now (counts .entry))) ⌝ }
+{
     match first(line) {
         b'F' => name(line),
         b'N' => narrowing(line, false, input, &mut counts[AT_INPUT]),
@@ -41,7 +46,9 @@ fn replayed(
 }
 
 // Replays every line and keeps where its answer ends.
-fn replay(text: &[u8], places: &mut [usize]) {
+fn replay(text: &[u8], places: &mut [usize])
+    ensures { λ _. ⌜ now (places .exit) ≡ placesFrom 0 (linesOf (now (text .entry))) nothingKept (now (places .entry)) ⌝ }
+{
     let mut dst: Picture = [0; 256];
     let mut table: Table = [0; 320];
     let mut args: Args = [0; 128];
@@ -81,7 +88,9 @@ pub fn judge(
     kinds: &[u8],
     right: &mut [u64],
     wrong: &mut [u64],
-) -> u64 {
+) -> u64
+    ensures { λ r. ⌜ counted (now (right .exit)) (now (wrong .exit)) r ≡ linesCounted (now (kinds .entry)) (placesFrom 0 (linesOf (now (text .entry))) nothingKept (now (places .entry))) 0 (linesOf (now (text .entry))) (counted (now (right .entry)) (now (wrong .entry)) 0) ⌝ }
+{
     replay(text, places);
     count_lines(text, places, kinds, right, wrong)
 }
