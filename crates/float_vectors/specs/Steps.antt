@@ -39,9 +39,13 @@ stepsOf a b c side =
     ∷ wordOf (axisOf a side .along)
     ∷ []
 
--- the operands are words; the second is also the side, for a coordinate
+-- the side of an axis, for a coordinate: from 1 to 2^24, as far as each whole number is an f32
+unfoldable pub sideOf : ℕ → ℕ
+sideOf n = cond (ltb n 1) 1 (cond (ltb 0x100_0000 n) 0x100_0000 n)
+
+-- the operands are words; the second is also the side
 unfoldable pub givenOf : (step a b c : ℕ) → ℕ
-givenOf step a b c = getD (stepsOf (valueOf a) (valueOf b) (valueOf c) b) step 0
+givenOf step a b c = getD (stepsOf (valueOf a) (valueOf b) (valueOf c) (sideOf b)) step 0
 
 -- STEP a b c: result, and the place after it, if it is what the step gives
 abbrev pub operandAt : List ℕ → ℕ → Unsigned

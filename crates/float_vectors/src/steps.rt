@@ -1,11 +1,11 @@
 // What each float step gives, by its number.
 ghost use mathlib.Core.Bool.{cond};
 ghost use mathlib.Core.Path.{_≡_};
-ghost use Prim.Native.Nat.{_<_};
+ghost use Prim.Native.Nat.{_<_, _≤_};
 ghost use lib.ListN.{getD};
 ghost use Rattle.float_steps.specs.Axis.{axisOf};
 ghost use Rattle.float_steps.specs.Words.{wordOf};
-ghost use Rattle.float_vectors.specs.Steps.{stepsOf, givenOf};
+ghost use Rattle.float_vectors.specs.Steps.{sideOf, stepsOf, givenOf};
 use float_steps::axis;
 use float_steps::order;
 use float_steps::remainder;
@@ -36,8 +36,22 @@ fn byte(v: u8) -> u64
     v as u64
 }
 
+// The side of an axis: `locate` is asked for 1 to 2^24.
+fn side_of(b: u32) -> usize
+    ensures { λ r. ⌜ (r ≡ sideOf b) × (1 ≤ r) × (r ≤ 0x100_0000) ⌝ }
+{
+    if b < 1 {
+        return 1;
+    }
+    if 0x100_0000 < b {
+        return 0x100_0000;
+    }
+    b as usize
+}
+
 // The pixel of a coordinate, the next one, and how far along it is.
 fn pixel(x: f32, side: usize) -> u64
+    requires { ⌜ (1 ≤ side) × (side ≤ 0x100_0000) ⌝ }
     ensures { λ r. ⌜ r ≡ axisOf x side .at ⌝ }
 {
     let found = axis::locate(x, side);
@@ -45,6 +59,7 @@ fn pixel(x: f32, side: usize) -> u64
 }
 
 fn next_pixel(x: f32, side: usize) -> u64
+    requires { ⌜ (1 ≤ side) × (side ≤ 0x100_0000) ⌝ }
     ensures { λ r. ⌜ r ≡ axisOf x side .next ⌝ }
 {
     let found = axis::locate(x, side);
@@ -52,6 +67,7 @@ fn next_pixel(x: f32, side: usize) -> u64
 }
 
 fn along(x: f32, side: usize) -> u64
+    requires { ⌜ (1 ≤ side) × (side ≤ 0x100_0000) ⌝ }
     ensures { λ r. ⌜ r ≡ wordOf (axisOf x side .along) ⌝ }
 {
     let found = axis::locate(x, side);
@@ -59,7 +75,7 @@ fn along(x: f32, side: usize) -> u64
 }
 
 fn step_of(step: u64, a: f32, b: f32, c: f32, side: usize) -> u64
-    requires { ⌜ step < 17 ⌝ }
+    requires { ⌜ (step < 17) × (1 ≤ side) × (side ≤ 0x100_0000) ⌝ }
     ensures { λ r. ⌜ r ≡ getD (stepsOf a b c side) step 0 ⌝ }
 {
     match step {
@@ -87,5 +103,5 @@ pub fn given(step: u64, a: u32, b: u32, c: u32) -> u64
     requires { ⌜ step < 17 ⌝ }
     ensures { λ r. ⌜ r ≡ givenOf step a b c ⌝ }
 {
-    step_of(step, value(a), value(b), value(c), b as usize)
+    step_of(step, value(a), value(b), value(c), side_of(b))
 }

@@ -79,7 +79,7 @@ returns-17 : tie.Need-returns-17
 unfolding stepsOf
 returns-17 c =
     let s = c .before .before in
-    let most = s .pre in
+    let most = s .pre .0 in
     let least = at-least (s .args .step) 16 (c .before .match .rest) in
     let last = squeezed (s .args .step) most least in
     rw (last, c .along .ensures)
