@@ -14,6 +14,7 @@ use Rattle.float_steps.specs.Remainder.{remEuclidOf, wrapOf}
 use Rattle.float_steps.specs.Root.{sqrtOf}
 use Rattle.float_steps.specs.Whole.{byteOf}
 use Rattle.faults.specs.Faults.{NONE}
+use Rattle.operators.specs.Numbers.{named}
 use Rattle.operators.specs.declared.CompositeOp.{CompositeOp}
 use Rattle.operators.specs.declared.CompositeOp.the-variants as O
 use Rattle.places.specs.Placement.{placementOf}
@@ -148,5 +149,5 @@ table =
     ∷ []
 
 pub trials : T (all table)
-unfolding wrapOf remEuclidOf sqrtOf byteOf smallerOf clampOf colorBurnOf overUnionOf overBy placementOf spotOf fromName entries isKept lower answers callOf acceptedOf callFault memoryFault jobFault badStack badDst rowsFault layerFault badPlacing badSource badShape badChannels outsideZ natOf runOf writeAt ofBits toBits add sub mul div rem lt le eq isNan
+unfolding wrapOf remEuclidOf sqrtOf byteOf smallerOf clampOf colorBurnOf overUnionOf overBy placementOf spotOf fromName entries isKept lower answers callOf acceptedOf callFault memoryFault jobFault badStack badDst rowsFault layerFault named badPlacing badSource badShape badChannels outsideZ natOf runOf writeAt ofBits toBits add sub mul div rem lt le eq isNan
 trials = tt

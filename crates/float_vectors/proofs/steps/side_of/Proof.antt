@@ -1,6 +1,5 @@
 -- `side_of` meets its contract: its tests are those of the definition. Assumes nothing.
 use native.Mathlib.Omega.{arith}
-use borrow.Author.Needs.{needs}
 use borrow.Author.Tests.{lt-ltb, le-ltb}
 use Rattle.float_vectors.specs.Steps.{sideOf}
 use Rattle.float_vectors.proofs.steps.side_of.Statement.{statement}
@@ -19,4 +18,4 @@ unfolding sideOf
 returns-3 c = (rw (le-ltb _ _ (c .before .if1 .left), le-ltb _ _ (c .if2 .left)), omega arith, omega arith)
 
 pub side-of-spec : {M : Type 1} → statement M
-side-of-spec = tie.close (tie.spec returns returns-2 (λ c. search needs) returns-3)
+side-of-spec = tie.close (tie.spec returns returns-2 returns-3)
