@@ -5,11 +5,16 @@ use mathlib.Core.List.{List}
 use Prim.Native.Nat.{ℕ}
 use lib.Dec.{eqb}
 use lib.IntN.{ℤ}
-use lib.ListN.{getD, set}
+use lib.ListN.{getD, set, take}
 use Rattle.vector_lines.specs.declared.numbers.Integer.{Integer}
 use Rattle.vector_lines.specs.Numbers.{largest, signedAt}
 use Rattle.vector_lines.specs.Lists.{Listed, numbersAt, integersAt, same, ifSame}
+use Rattle.layers.specs.Inputs.{Inputs, inputsOf}
 use Rattle.vector_rooms.specs.declared.Shape.{Shape}
+
+-- what a list has that was read
+abbrev pub given : Listed ℕ → List ℕ
+given l = take (l .count) (l .list)
 
 -- ---- width height channels
 
@@ -59,6 +64,38 @@ samplesAt line s = withSamples s (numbersAt 4294967295 line (s .next) (s .sample
 
 abbrev pub layersAt : List ℕ → Layered → Layered
 layersAt line s = samplesAt line (argsAt line (tableAt line s))
+
+-- ---- DST, and the lists of the layers
+
+-- a place in a line, DST and the lists of the layers, and all the counts
+pub record Composing : Type 0 where
+  pub next : ℕ
+  pub dst : List ℕ
+  pub table : List ℤ
+  pub args : List ℕ
+  pub samples : List ℕ
+  pub counts : List ℕ
+
+abbrev pub composing : ℕ → List ℕ → List ℤ → (args samples counts : List ℕ) → Composing
+composing next dst table args samples counts =
+    record { next = next; dst = dst; table = table; args = args; samples = samples; counts = counts }
+
+abbrev pub withDst : Composing → Listed ℕ → Composing
+withDst s l = composing (l .next) (l .list) (s .table) (s .args) (s .samples) (set (s .counts) 0 (l .count))
+
+abbrev pub withLayers : Composing → Layered → Composing
+withLayers s l = composing (l .next) (s .dst) (l .table) (l .args) (l .samples) (l .counts)
+
+unfoldable pub dstAt : List ℕ → Composing → Composing
+dstAt line s = withDst s (numbersAt 4294967295 line (s .next) (s .dst) (getD (s .counts) 0 0))
+
+unfoldable pub listsAt : List ℕ → Composing → Composing
+listsAt line s = withLayers s (layersAt line (layered (s .next) (s .table) (s .args) (s .samples) (s .counts)))
+
+-- the inputs that the lists have, with a count of layers
+abbrev pub inputsBy : Shape → ℤ → Composing → Inputs
+inputsBy shape layers s =
+    inputsOf (shape .width) (shape .height) (shape .channels) (take (getD (s .counts) 0 0) (s .dst)) layers (take (getD (s .counts) 1 0) (s .table)) (take (getD (s .counts) 2 0) (s .args)) (take (getD (s .counts) 3 0) (s .samples))
 
 -- ---- WORK0 WORK1 MARK
 

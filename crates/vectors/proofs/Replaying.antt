@@ -9,8 +9,8 @@ use Rattle.vector_lines.specs.Numbers.{nowhere}
 use Rattle.verdicts.specs.Lines.{widthOf, linesOf, firstOf, askedOf}
 use Rattle.verdicts.proofs.Splitting.{split}
 use Rattle.job.specs.Memory.{memOf}
-use Rattle.vectors.specs.Cases.{nameAt, compositionAt}
-use Rattle.vectors.specs.Jobs.{jobAt}
+use Rattle.vector_cases.specs.Cases.{nameAt, compositionAt}
+use Rattle.vector_jobs.specs.Jobs.{jobAt}
 use Rattle.vectors.specs.Replay.{Kept, Answered, answer, afterNarrowing, afterComposition, afterJob, listsOf, replayedAt, placesFrom}
 
 module _ (line : List ℕ) (k : Kept) (b : ℕ) (is : b ≡ firstOf line) where

@@ -1,3 +1,1 @@
-pub mod Cases
-pub mod Jobs
 pub mod Replay

@@ -8,8 +8,9 @@ use lib.ListN.{getD, set, replicate}
 use Rattle.vector_lines.specs.Numbers.{nowhere}
 use Rattle.verdicts.specs.Lines.{firstOf, askedOf}
 use Rattle.job.specs.Memory.{memOf}
-use Rattle.vectors.specs.Cases.{nameAt, inputAt, narrowingAt, Composing, composing, compositionAt}
-use Rattle.vectors.specs.Jobs.{Jobbed, jobAt}
+use Rattle.vector_rooms.specs.Rooms.{Composing, composing}
+use Rattle.vector_cases.specs.Cases.{nameAt, inputAt, narrowingAt, compositionAt}
+use Rattle.vector_jobs.specs.Jobs.{Jobbed, jobAt}
 
 -- the lists that lines share, and their counts
 pub record Kept : Type 0 where

@@ -1,7 +1,5 @@
 // Replays the fixed vectors on standard input against the library and writes, for each kind of line, how many are answered right and how many wrong,
 // and where the first wrong one stands. The vectors are written by oracle/, whose README has the form of a line.
-mod cases;
-mod jobs;
 mod replay;
 
 use libc::STDIN_FILENO;

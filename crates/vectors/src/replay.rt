@@ -2,10 +2,10 @@
 ghost use mathlib.Core.Path.{_≡_};
 ghost use Rattle.verdicts.specs.Lines.{linesOf, counted, linesCounted};
 ghost use Rattle.vectors.specs.Replay.{kept, nothingKept, answer, replayedAt, placesFrom};
-use crate::cases::composition;
-use crate::cases::name;
-use crate::cases::narrowing;
-use crate::jobs::job;
+use vector_cases::composition;
+use vector_cases::name;
+use vector_cases::narrowing;
+use vector_jobs::job;
 use vector_lines::NOWHERE;
 use vector_rooms::AT_INPUT;
 use vector_rooms::Args;

@@ -1,8 +1,8 @@
 -- `replayed` meets its contract: each arm is one of the definition's kinds, by its callee's. Assumes nothing.
 use mathlib.Core.Path.{ap, _∙_}
 use borrow.Author.Needs.{needs}
-use Rattle.vectors.specs.Cases.{Composing}
-use Rattle.vectors.specs.Jobs.{Jobbed}
+use Rattle.vector_rooms.specs.Rooms.{Composing}
+use Rattle.vector_jobs.specs.Jobs.{Jobbed}
 use Rattle.vectors.specs.Replay.{kept, afterComposition, afterJob}
 use Rattle.vectors.proofs.Replaying.{a-name, a-narrowing, to-bytes, a-composition, a-job, no-kind}
 use Rattle.vectors.proofs.replay.replayed.Statement.{statement}

@@ -1,0 +1,193 @@
+// One function a kind of line: it reads what is asked, calls the library, and holds the answer against what the line says. Each answers the place
+// after the line's last token, or NOWHERE where the line is malformed or its answer is another.
+ghost use mathlib.Core.Path.{_≡_};
+ghost use lib.IntN.{pos};
+ghost use Rattle.vector_lines.specs.Numbers.{largest, numberAt};
+ghost use Rattle.names.specs.Names.{fromName};
+ghost use Rattle.narrowing.specs.Narrow.{narrowOf, narrowBytesOf};
+ghost use Rattle.layers.specs.Inputs.{inputsOf};
+ghost use Rattle.compose.specs.Single.{composeOf};
+ghost use Rattle.tray.specs.Answers.{nameOf};
+ghost use Rattle.vector_rooms.specs.Rooms.{composing};
+ghost use Rattle.vector_cases.specs.Cases.{nameAt, namedAt, writtenAt, narrowingAt, narrowedAt, narrowedBytesAt, inputAt, composedAt, composedBy, compositionAt};
+use vector_lines::NOWHERE;
+use vector_lines::bytes;
+use vector_lines::expect;
+use vector_lines::first_bytes;
+use vector_lines::first_integers;
+use vector_lines::first_words;
+use vector_lines::if_same;
+use vector_lines::number;
+use vector_lines::same_words;
+use vector_lines::signed;
+use vector_lines::words;
+use vector_rooms::AT_ARGS;
+use vector_rooms::AT_DST;
+use vector_rooms::AT_SAMPLES;
+use vector_rooms::AT_TABLE;
+use vector_rooms::Args;
+use vector_rooms::Counts;
+use vector_rooms::OUT;
+use vector_rooms::Picture;
+use vector_rooms::Samples;
+use vector_rooms::Shape;
+use vector_rooms::Table;
+use vector_rooms::layers;
+use vector_rooms::shape_of;
+
+// What an output holds before it is lent.
+const FILL: u32 = 0xa5a5_a5a5;
+
+const FILL_BYTE: u8 = 0xa5;
+
+// F NAME: number operator.
+pub fn name(line: &[u8]) -> usize
+    ensures { λ r. ⌜ r ≡ nameAt (now (line .entry)) ⌝ }
+{
+    let mut text = [0u8; 128];
+    let mut count: usize = 0;
+    let at = bytes(line, 1, &mut text, &mut count);
+    named(line, at, first_bytes(&text, count))
+}
+
+fn named(line: &[u8], at: usize, text: &[u8]) -> usize
+    ensures { λ r. ⌜ r ≡ namedAt (now (line .entry)) at (nameOf (fromName (now (text .entry))) 0) ⌝ }
+{
+    let mut operator: u64 = 0;
+    let answer = tray::tray_from_name(text, &mut operator);
+    expect(line, expect(line, at, answer), operator)
+}
+
+// N or B, to words or to bytes, wanted INPUT length: number OUT.
+pub fn narrowing(line: &[u8], as_bytes: bool, input: &mut Picture, count: &mut usize) -> usize
+    ensures { λ r. ⌜ r ≡ narrowingAt «as_bytes» (now (line .entry)) (now (input .entry)) (now (count .entry)) ⌝ }
+    ensures { λ _. ⌜ now (input .exit) ≡ inputAt (now (line .entry)) (now (input .entry)) (now (count .entry)) .list ⌝ }
+    ensures { λ _. ⌜ now (count .exit) ≡ inputAt (now (line .entry)) (now (input .entry)) (now (count .entry)) .count ⌝ }
+{
+    let wanted = signed(line, 1);
+    let length = number(line, words(line, wanted.next, input, count));
+    let value = wanted.value;
+    if length.value > OUT as u64 {
+        return NOWHERE;
+    }
+    let n = length.value as usize;
+    let lent = first_words(input, *count);
+    if as_bytes {
+        let mut out = [FILL_BYTE; OUT];
+        return narrowed_bytes(line, length.next, value, lent, &mut out[0..n]);
+    }
+    let mut out = [FILL; OUT];
+    narrowed(line, length.next, value, lent, &mut out[0..n])
+}
+
+fn narrowed(line: &[u8], at: usize, wanted: i64, input: &[u32], out: &mut [u32]) -> usize
+    ensures { λ r. ⌜ r ≡ narrowedAt (now (line .entry)) at (narrowOf wanted (now (input .entry)) (now (out .entry))) ⌝ }
+{
+    let answer = tray::tray_narrow(wanted, input, out);
+    written(line, expect(line, at, answer), out)
+}
+
+fn narrowed_bytes(line: &[u8], at: usize, wanted: i64, input: &[u32], out: &mut [u8]) -> usize
+    ensures { λ r. ⌜ r ≡ narrowedBytesAt (now (line .entry)) at (narrowBytesOf wanted (now (input .entry)) (now (out .entry))) ⌝ }
+{
+    let answer = tray::tray_narrow_bytes(wanted, input, out);
+    written_bytes(line, expect(line, at, answer), out)
+}
+
+// The place after an output that must be as `out` is.
+fn written(line: &[u8], at: usize, out: &[u32]) -> usize
+    ensures { λ r. ⌜ r ≡ writtenAt 4294967295 2779096485 (now (line .entry)) at (now (out .entry)) ⌝ }
+{
+    let mut due = [FILL; OUT];
+    let mut count = out.len();
+    let next = words(line, at, &mut due, &mut count);
+    if_same(same_words(first_words(&due, count), out), next)
+}
+
+fn written_bytes(line: &[u8], at: usize, out: &[u8]) -> usize
+    ensures { λ r. ⌜ r ≡ writtenAt 255 165 (now (line .entry)) at (now (out .entry)) ⌝ }
+{
+    let mut due = [FILL_BYTE; OUT];
+    let mut count = out.len();
+    let next = bytes(line, at, &mut due, &mut count);
+    if_same(check::same(first_bytes(&due, count), out), next)
+}
+
+// C width height channels DST TABLE ARGS SAMPLES length: number OUT.
+pub fn composition(
+    line: &[u8],
+    dst: &mut Picture,
+    table: &mut Table,
+    args: &mut Args,
+    samples: &mut Samples,
+    counts: &mut Counts,
+) -> usize
+    ensures { λ r. ⌜ composing r (now (dst .exit)) (now (table .exit)) (now (args .exit)) (now (samples .exit)) (now (counts .exit)) ≡ compositionAt (now (line .entry)) (composing 0 (now (dst .entry)) (now (table .entry)) (now (args .entry)) (now (samples .entry)) (now (counts .entry))) ⌝ }
+{
+    let shape = shape_of(line);
+    let after_dst = words(line, shape.next, dst, &mut counts[AT_DST]);
+    let after_lists = layers(line, after_dst, table, args, samples, counts);
+    composed(
+        line,
+        after_lists,
+        shape,
+        first_words(dst, counts[AT_DST]),
+        first_integers(table, counts[AT_TABLE]),
+        first_words(args, counts[AT_ARGS]),
+        first_words(samples, counts[AT_SAMPLES]),
+    )
+}
+
+fn composed(
+    line: &[u8],
+    at: usize,
+    shape: Shape,
+    dst: &[u32],
+    table: &[i64],
+    args: &[u32],
+    samples: &[u32],
+) -> usize
+    ensures { λ r. ⌜ r ≡ composedBy (now (line .entry)) (inputsOf (shape .width) (shape .height) (shape .channels) (now (dst .entry)) (pos 1) (now (table .entry)) (now (args .entry)) (now (samples .entry))) (numberAt largest (now (line .entry)) at) ⌝ }
+{
+    let length = number(line, at);
+    if length.value > OUT as u64 {
+        return NOWHERE;
+    }
+    let n = length.value as usize;
+    let mut out = [FILL; OUT];
+    composed_in(
+        line,
+        length.next,
+        shape,
+        dst,
+        table,
+        args,
+        samples,
+        &mut out[0..n],
+    )
+}
+
+fn composed_in(
+    line: &[u8],
+    at: usize,
+    shape: Shape,
+    dst: &[u32],
+    table: &[i64],
+    args: &[u32],
+    samples: &[u32],
+    out: &mut [u32],
+) -> usize
+    ensures { λ r. ⌜ r ≡ composedAt (now (line .entry)) at (composeOf (inputsOf (shape .width) (shape .height) (shape .channels) (now (dst .entry)) (pos 1) (now (table .entry)) (now (args .entry)) (now (samples .entry))) (now (out .entry))) ⌝ }
+{
+    let answer = tray::tray_compose(
+        shape.width,
+        shape.height,
+        shape.channels,
+        dst,
+        table,
+        args,
+        samples,
+        out,
+    );
+    written(line, expect(line, at, answer), out)
+}

@@ -1,0 +1,106 @@
+-- What a line of a job asks, call after call, and where its answers end. Definitions only.
+use mathlib.Core.Bool.{cond, _||_}
+use mathlib.Core.List.{List, [], _∷_, _++_}
+use Prim.Native.Nat.{ℕ}
+use lib.Dec.{ltb}
+use lib.IntN.{ℤ}
+use lib.ListN.{length, getD, take, drop, replicate}
+use Rattle.vector_lines.specs.declared.numbers.Integer.{Integer}
+use Rattle.vector_lines.specs.Numbers.{nowhere, largest, expectedAt, signedAt}
+use Rattle.vector_lines.specs.Lists.{Listed, numbersAt}
+use Rattle.vector_rooms.specs.declared.Shape.{Shape}
+use Rattle.vector_rooms.specs.Rooms.{shapeAt, Worked, worked, memoryAt, leftAt, given, Composing, composing, dstAt, listsAt, inputsBy}
+use Rattle.layers.specs.Inputs.{Inputs}
+use Rattle.job.specs.Memory.{Mem, memOf, positionOf}
+use Rattle.job.specs.Call.{callOf}
+use Rattle.tray.specs.Answers.{HostOutcome, jobOutcome}
+
+-- a place in the line, and the job's memory
+pub record Played : Type 0 where
+  pub next : ℕ
+  pub mem : Mem
+
+abbrev pub played : ℕ → List ℕ → List ℕ → List ℕ → Played
+played next work0 work1 mark = record { next = next; mem = memOf work0 work1 mark }
+
+-- number layer stores finished mark
+unfoldable pub outcomeAt : List ℕ → ℕ → HostOutcome → Played
+outcomeAt line at o = record {
+  next = expectedAt line
+      (expectedAt line (expectedAt line (expectedAt line (expectedAt line at (o .number)) (o .layer)) (o .stores)) (o .finished))
+      (positionOf (o .mem));
+  mem = o .mem;
+}
+
+-- a call, and the calls one after the other
+abbrev pub callAt : List ℕ → Inputs → ℕ → Played → Played
+callAt line inputs allowance p = outcomeAt line (p .next) (jobOutcome (callOf inputs allowance (p .mem)))
+
+unfoldable pub callsAt : List ℕ → Inputs → List ℕ → Played → Played
+callsAt line inputs [] p = p
+callsAt line inputs (allowance ∷ rest) p = callsAt line inputs rest (callAt line inputs allowance p)
+
+-- ---- a line of a job
+
+-- the parts of the lists that are lent, as many elements as each list's count says, and the lists once the parts are back
+abbrev pub lentOn : (counts : List ℕ) → Played → Played
+lentOn counts p =
+    played (p .next) (take (getD counts 5 0) (p .mem .work0)) (take (getD counts 6 0) (p .mem .work1)) (take (getD counts 7 0) (p .mem .checkpoint))
+
+abbrev pub backOn : (counts : List ℕ) → Played → Played → Played
+backOn counts p q =
+    played (q .next)
+    (q .mem .work0 ++ drop (getD counts 5 0) (p .mem .work0))
+    (q .mem .work1 ++ drop (getD counts 6 0) (p .mem .work1))
+    (q .mem .checkpoint ++ drop (getD counts 7 0) (p .mem .checkpoint))
+
+-- no call is made where a count is more than there is room for
+unfoldable pub calledAt : List ℕ → Inputs → (allowances counts : List ℕ) → Played → Played
+calledAt line inputs allowances counts p =
+    cond (ltb (length (p .mem .work0)) (getD counts 5 0) || ltb (length (p .mem .work1)) (getD counts 6 0) || ltb (length (p .mem .checkpoint)) (getD counts 7 0))
+    (played nowhere (p .mem .work0) (p .mem .work1) (p .mem .checkpoint))
+    (backOn counts p (callsAt line inputs allowances (lentOn counts p)))
+
+-- the calls, and after them the memory that they must leave; '=' there is the memory before them
+unfoldable pub leftOn : List ℕ → Worked → Played → Worked
+leftOn line w p = leftAt line (worked (p .next) (w .work0) (w .work1) (w .mark) (w .counts)) (p .mem .work0) (p .mem .work1) (p .mem .checkpoint)
+
+unfoldable pub calledOn : List ℕ → Inputs → Worked → Listed ℕ → Worked
+calledOn line inputs w allowances =
+    leftOn line w (calledAt line inputs (given allowances) (w .counts) (played (allowances .next) (w .work0) (w .work1) (w .mark)))
+
+unfoldable pub allowedAt : List ℕ → Inputs → Worked → Worked
+allowedAt line inputs w = calledOn line inputs w (numbersAt largest line (w .next) (replicate 16 0) 0)
+
+-- WORK0 WORK1 MARK ALLOWANCES: the calls' answers, WORK0 WORK1 MARK
+abbrev pub playedAt : List ℕ → Inputs → Worked → Worked
+playedAt line inputs w = allowedAt line inputs (memoryAt line w)
+
+-- the lists of the layers, and those of the memory with the place and all the counts
+pub record Jobbed : Type 0 where
+  pub dst : List ℕ
+  pub table : List ℤ
+  pub args : List ℕ
+  pub samples : List ℕ
+  pub work : Worked
+
+abbrev pub jobbed : List ℕ → List ℤ → (args samples : List ℕ) → Worked → Jobbed
+jobbed dst table args samples work = record { dst = dst; table = table; args = args; samples = samples; work = work }
+
+unfoldable pub jobOn : List ℕ → Shape → ℤ → Composing → Mem → Jobbed
+jobOn line shape layers s m =
+    jobbed (s .dst) (s .table) (s .args) (s .samples) (playedAt line (inputsBy shape layers s) (worked (s .next) (m .work0) (m .work1) (m .checkpoint) (s .counts)))
+
+unfoldable pub jobWith : List ℕ → Shape → Composing → Mem → Integer → Jobbed
+jobWith line shape s m layers =
+    jobOn line shape (layers .value) (listsAt line (composing (layers .next) (s .dst) (s .table) (s .args) (s .samples) (s .counts))) m
+
+unfoldable pub jobFrom : List ℕ → Shape → Composing → Mem → Jobbed
+jobFrom line shape s m = jobWith line shape s m (signedAt line (s .next))
+
+unfoldable pub jobBy : List ℕ → Shape → Composing → Mem → Jobbed
+jobBy line shape s m = jobFrom line shape (dstAt line (composing (shape .next) (s .dst) (s .table) (s .args) (s .samples) (s .counts))) m
+
+-- J width height channels DST layers TABLE ARGS SAMPLES, and the above
+abbrev pub jobAt : List ℕ → Composing → Mem → Jobbed
+jobAt line = jobBy line (shapeAt line)

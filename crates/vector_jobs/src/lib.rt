@@ -1,0 +1,260 @@
+// The lines of jobs: calls one after the other on the same work buffers and mark.
+ghost use mathlib.Core.Path.{_≡_};
+ghost use lib.ListN.{getD};
+ghost use Rattle.vector_rooms.specs.Rooms.{worked, composing};
+ghost use Rattle.layers.specs.Inputs.{inputsOf};
+ghost use Rattle.job.specs.Memory.{memOf};
+ghost use Rattle.vector_jobs.specs.Jobs.{played, callAt, callsAt, calledAt, playedAt, jobbed, jobAt};
+use vector_lines::NOWHERE;
+use vector_lines::expect;
+use vector_lines::first_integers;
+use vector_lines::first_longs;
+use vector_lines::first_words;
+use vector_lines::longs;
+use vector_lines::signed;
+use vector_lines::words;
+use vector_rooms::AT_ARGS;
+use vector_rooms::AT_DST;
+use vector_rooms::AT_MARK;
+use vector_rooms::AT_SAMPLES;
+use vector_rooms::AT_TABLE;
+use vector_rooms::AT_WORK0;
+use vector_rooms::AT_WORK1;
+use vector_rooms::Args;
+use vector_rooms::Counts;
+use vector_rooms::Mark;
+use vector_rooms::Picture;
+use vector_rooms::Samples;
+use vector_rooms::Shape;
+use vector_rooms::Table;
+use vector_rooms::layers;
+use vector_rooms::left;
+use vector_rooms::memory;
+use vector_rooms::shape_of;
+
+// J width height channels DST layers TABLE ARGS SAMPLES WORK0 WORK1 MARK ALLOWANCES: number layer stores finished mark for each call, WORK0 WORK1 MARK.
+pub fn job(
+    line: &[u8],
+    dst: &mut Picture,
+    table: &mut Table,
+    args: &mut Args,
+    samples: &mut Samples,
+    work0: &mut Picture,
+    work1: &mut Picture,
+    mark: &mut Mark,
+    counts: &mut Counts,
+) -> usize
+    ensures { λ r. ⌜ jobbed (now (dst .exit)) (now (table .exit)) (now (args .exit)) (now (samples .exit)) (worked r (now (work0 .exit)) (now (work1 .exit)) (now (mark .exit)) (now (counts .exit))) ≡ jobAt (now (line .entry)) (composing 0 (now (dst .entry)) (now (table .entry)) (now (args .entry)) (now (samples .entry)) (now (counts .entry))) (memOf (now (work0 .entry)) (now (work1 .entry)) (now (mark .entry))) ⌝ }
+{
+    let shape = shape_of(line);
+    let after_dst = words(line, shape.next, dst, &mut counts[AT_DST]);
+    let count = signed(line, after_dst);
+    let after_lists = layers(line, count.next, table, args, samples, counts);
+    let dst_count = counts[AT_DST];
+    let table_count = counts[AT_TABLE];
+    let args_count = counts[AT_ARGS];
+    let samples_count = counts[AT_SAMPLES];
+    played(
+        line,
+        after_lists,
+        shape,
+        first_words(dst, dst_count),
+        count.value,
+        first_integers(table, table_count),
+        first_words(args, args_count),
+        first_words(samples, samples_count),
+        work0,
+        work1,
+        mark,
+        counts,
+    )
+}
+
+// Reads the memory and the allowances, makes the calls, and holds the memory that they leave against what the line says.
+fn played(
+    line: &[u8],
+    at: usize,
+    shape: Shape,
+    dst: &[u32],
+    layers: i64,
+    table: &[i64],
+    args: &[u32],
+    samples: &[u32],
+    work0: &mut Picture,
+    work1: &mut Picture,
+    mark: &mut Mark,
+    counts: &mut Counts,
+) -> usize
+    ensures { λ r. ⌜ worked r (now (work0 .exit)) (now (work1 .exit)) (now (mark .exit)) (now (counts .exit)) ≡ playedAt (now (line .entry)) (inputsOf (shape .width) (shape .height) (shape .channels) (now (dst .entry)) layers (now (table .entry)) (now (args .entry)) (now (samples .entry))) (worked at (now (work0 .entry)) (now (work1 .entry)) (now (mark .entry)) (now (counts .entry))) ⌝ }
+{
+    let after_memory = memory(line, at, work0, work1, mark, counts);
+    let mut allowances = [0u64; 16];
+    let mut calls: usize = 0;
+    let after_allowances = longs(line, after_memory, &mut allowances, &mut calls);
+    let mut due0 = *work0;
+    let mut due1 = *work1;
+    let mut due_mark = *mark;
+    let after_calls = called(
+        line,
+        after_allowances,
+        shape,
+        dst,
+        layers,
+        table,
+        args,
+        samples,
+        first_longs(&allowances, calls),
+        work0,
+        work1,
+        mark,
+        counts,
+    );
+    left(
+        line,
+        after_calls,
+        &mut due0,
+        &mut due1,
+        &mut due_mark,
+        work0,
+        work1,
+        mark,
+        counts,
+    )
+}
+
+// The calls, each with its allowance, on the parts of the memory that are lent.
+fn called(
+    line: &[u8],
+    at: usize,
+    shape: Shape,
+    dst: &[u32],
+    layers: i64,
+    table: &[i64],
+    args: &[u32],
+    samples: &[u32],
+    allowances: &[u64],
+    work0: &mut [u32],
+    work1: &mut [u32],
+    mark: &mut [u64],
+    counts: &Counts,
+) -> usize
+    ensures { λ r. ⌜ played r (now (work0 .exit)) (now (work1 .exit)) (now (mark .exit)) ≡ calledAt (now (line .entry)) (inputsOf (shape .width) (shape .height) (shape .channels) (now (dst .entry)) layers (now (table .entry)) (now (args .entry)) (now (samples .entry))) (now (allowances .entry)) (now (counts .entry)) (played at (now (work0 .entry)) (now (work1 .entry)) (now (mark .entry))) ⌝ }
+{
+    let n0 = counts[AT_WORK0];
+    let n1 = counts[AT_WORK1];
+    let n = counts[AT_MARK];
+    if n0 > work0.len() {
+        return NOWHERE;
+    }
+    if n1 > work1.len() {
+        return NOWHERE;
+    }
+    if n > mark.len() {
+        return NOWHERE;
+    }
+    calls_on(
+        line,
+        at,
+        shape,
+        dst,
+        layers,
+        table,
+        args,
+        samples,
+        allowances,
+        &mut work0[0..n0],
+        &mut work1[0..n1],
+        &mut mark[0..n],
+    )
+}
+
+fn calls_on(
+    line: &[u8],
+    from: usize,
+    shape: Shape,
+    dst: &[u32],
+    layers: i64,
+    table: &[i64],
+    args: &[u32],
+    samples: &[u32],
+    allowances: &[u64],
+    work0: &mut [u32],
+    work1: &mut [u32],
+    mark: &mut [u64],
+) -> usize
+    ensures { λ r. ⌜ played r (now (work0 .exit)) (now (work1 .exit)) (now (mark .exit)) ≡ callsAt (now (line .entry)) (inputsOf (shape .width) (shape .height) (shape .channels) (now (dst .entry)) layers (now (table .entry)) (now (args .entry)) (now (samples .entry))) (now (allowances .entry)) (played from (now (work0 .entry)) (now (work1 .entry)) (now (mark .entry))) ⌝ }
+{
+    let mut at = from;
+    let mut i = 0;
+    while i < allowances.len() {
+        let allowance = allowances[i];
+        i += 1;
+        at = call(
+            line,
+            at,
+            shape,
+            dst,
+            layers,
+            table,
+            args,
+            samples,
+            allowance,
+            work0,
+            work1,
+            mark,
+        );
+    }
+    at
+}
+
+// One call, and the place after its answer.
+fn call(
+    line: &[u8],
+    at: usize,
+    shape: Shape,
+    dst: &[u32],
+    layers: i64,
+    table: &[i64],
+    args: &[u32],
+    samples: &[u32],
+    allowance: u64,
+    work0: &mut [u32],
+    work1: &mut [u32],
+    mark: &mut [u64],
+) -> usize
+    ensures { λ r. ⌜ played r (now (work0 .exit)) (now (work1 .exit)) (now (mark .exit)) ≡ callAt (now (line .entry)) (inputsOf (shape .width) (shape .height) (shape .channels) (now (dst .entry)) layers (now (table .entry)) (now (args .entry)) (now (samples .entry))) allowance (played at (now (work0 .entry)) (now (work1 .entry)) (now (mark .entry))) ⌝ }
+{
+    let mut layer: u64 = 0;
+    let mut stores: u64 = 0;
+    let mut finished: u64 = 0;
+    let answer = tray::tray_job(
+        shape.width,
+        shape.height,
+        shape.channels,
+        dst,
+        layers,
+        table,
+        args,
+        samples,
+        allowance,
+        work0,
+        work1,
+        mark,
+        &mut layer,
+        &mut stores,
+        &mut finished,
+    );
+    let after_answer = expect(line, expect(line, at, answer), layer);
+    let after_count = expect(line, expect(line, after_answer, stores), finished);
+    expect(line, after_count, position(mark))
+}
+
+// The mark as a line shows it: the first number of its list, 0 where there is none.
+fn position(mark: &[u64]) -> u64
+    ensures { λ r. ⌜ r ≡ getD (now (mark .entry)) 0 0 ⌝ }
+{
+    if 0 < mark.len() {
+        return mark[0];
+    }
+    0
+}
