@@ -19,9 +19,9 @@
  * The floating-point environment. A call computes in the environment of the thread that makes it, and what is promised of
  * samples holds in the one in which a C program starts: every operation rounded to nearest, ties to even; subnormal
  * numbers neither taken nor stored as zero; no floating-point exception trapped. No call checks it. In another one samples
- * come out with other bits and no fault is answered, and a job that such a worker takes up is a mixture. It is left by
+ * may come out with other bits and no fault is answered, and a job that such a worker takes up is a mixture. It is left by
  * fesetround, feenableexcept and MXCSR, and by linking with gcc -ffast-math or -Ofast, whose start file (crtfastmath.o)
- * sets flush-to-zero and denormals-are-zero, in a shared library for whoever loads it. A host checks it in each thread that
+ * sets flush-to-zero and denormals-are-zero, with gcc 12 in a shared library too, for whoever loads it. A host checks it in each thread that
  * makes calls (a new thread has its maker's):
  *
  *    fegetround() == FE_TONEAREST                               <fenv.h>; on x86-64 this does not see the bits of MXCSR
@@ -30,7 +30,8 @@
  *    _MM_GET_DENORMALS_ZERO_MODE() == _MM_DENORMALS_ZERO_OFF    <pmmintrin.h>, MXCSR's bit 6
  *    (_mm_getcsr() & 0xFFC0) == 0x1F80                          the last three and that nothing is trapped, at once
  *
- * and sets it by fesetenv(FE_DFL_ENV), or by _mm_setcsr(0x1F80) on x86-64. The Rust crate host/tray checks it in each call.
+ * and sets it by fesetenv(FE_DFL_ENV), or by _mm_setcsr(0x1F80) on x86-64. The Rust crate host/tray
+ * looks at the rounding and the subnormal numbers before each call that computes.
  *
  * Answers. 0: done. Otherwise the number of the first fault, in the order 1, 2, then 3 to 8 layer by layer, then 9, 10:
  *
