@@ -1,4 +1,4 @@
--- `compose_float` (composite.rs 594 to 647) restated over words, pixel by pixel and in its order: one pixel of the result from the layer, the
+-- `compose_float` (composite.rs 594 to 647) restated over values and their words, pixel by pixel and in its order: one pixel of the result from the layer, the
 -- destination's sides dw and dh, a reader of the picture beneath, and the pixel's number j, row by row: its column x is j % dw, its row y is j / dw.
 -- Document 01: "Where a source lands", "Float steps" on what is stored. Definitions only.
 use mathlib.Core.Bool.{Bool, true, false, cond, _||_}
@@ -48,7 +48,8 @@ abbrev pub inside : Spot → Bool
 inside (At n) = true
 inside Off = false
 
--- Whether a layer writes pixel j, as `outside_overlay` (composite.rs 616 to 618) has it: it lies on the source, or overlay is on. The one predicate that decides it.
+-- Whether a layer writes pixel j, as `outside_overlay` (composite.rs 616 to 618) has it: it lies on the source, or overlay
+-- is on.
 unfoldable pub writes : Layer → (dw dh j : ℕ) → Bool
 writes l dw dh j = inside (spotOn l dw dh j) || l .«outside_overlay»
 

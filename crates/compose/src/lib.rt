@@ -1,4 +1,5 @@
-// Composition: one layer on one picture, as `compose_float` of composite.rs has it. The contracts cite specs/Compose.antt and specs/Arguments.antt.
+// Composition: one layer on one picture, as `compose_float` of composite.rs has it. The contracts cite specs/Compose, Arguments and Single, and, of what
+// the code works out once a layer, specs/Plans and Ready.
 pub mod arguments; // arguments.rt: an operator's arguments with their defaults
 pub mod cell; // cell.rt: one pixel of the result
 pub mod run; // run.rt: runs of pixels

@@ -1,5 +1,5 @@
 -- A layer as one value, from its row of the layer table and its words of the arguments (document 01: "ten signed 64-bit
--- numbers a layer"; flags; "arguments past the count are not read"). Every row decodes to a layer; that the numbers are in
+-- numbers a layer"; flags; arguments, of which "those past the count are not read"). Every row decodes to a layer; that the numbers are in
 -- their ranges is asked in Faults.
 use mathlib.Core.Bool.{Bool, cond}
 use mathlib.Core.List.{List}

@@ -1,5 +1,5 @@
 // The 70 operators of `CompositeOp` (composite.rs 46 to 194): their numbers, their conventions, and what a number names.
-// The contracts cite specs/Operators and specs/Numbers.
+// The contracts cite specs/Operators and specs/Numbers, that of the match specs/Listed.
 ghost use mathlib.Core.Path.{_≡_};
 ghost use Rattle.operators.specs.Operators.{opAt, convention, isMap};
 ghost use Rattle.operators.specs.Numbers.{named, opOf};

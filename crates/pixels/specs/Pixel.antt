@@ -108,8 +108,8 @@ pub data Formula : Type 0 where
   blend : (Float → Float → Float) → Formula
   modulus : (Float → Float → Float) → Formula
 
--- One line an operator: its arm of `pixel` (composite.rs 650 to 852), or of `blend_inner` (composite.rs 957 to 1031), which the last arm of `pixel` comes to. The
--- parameters p are the operator's arguments, with their defaults in place. Displace, Distort and Blur read the source as a map: their line is the Rust's,
+-- One line an operator: its arm of `pixel` (composite.rs 650 to 852), or of `blend_inner` (composite.rs 957 to 1031), which the last arm of `pixel`
+-- comes to. The parameters p are the operator's arguments, with their defaults in place. Displace, Distort and Blur read the source as a map: their line is the Rust's,
 -- and composition does not come here for them. Interpolate is refused (document 01, CURVE): its line is never used.
 abbrev pub formulaOf : CompositeOp → Params → Formula
 formulaOf O.Over p = pixel (λ s d. overOf s d)
@@ -190,7 +190,7 @@ abbrev pub unused : Params
 unused = record { a = f0; b = f0; c = f0; d = f0 }
 
 -- `blend_inner` (composite.rs 957 to 1031): what the operator makes of one colour channel of the source, s, and of the destination, d. One that is not
--- mathematical, or is a modulus, has the Rust's `_ => s`.
+-- mathematical, or is a modulus, has the Rust's `_ => s`, and so has Interpolate, whose line is never used.
 abbrev pub blendIn : Formula → Float → Float → Float
 blendIn (pixel f) s d = s
 blendIn (blend B) s d = B s d
