@@ -1,10 +1,12 @@
--- On numbers from 0 to 1, with one alpha 0 or 1: the stored colour of the modes that mix is W3C's co as it is printed, clamped, and divided where the convention divides;
--- with one alpha 0, or both 1, alpha is W3C's. Assumes nothing.
-use mathlib.Core.Path.{refl, sym, ap, _∙_, subst}
+-- On numbers from 0 to 1: what W3C mixes needs no clamp; with one alpha 0 or 1 the four steps of the mixing make no difference; with one alpha 0 alpha is W3C's.
+-- Assumes nothing.
+use mathlib.Core.Path.{_≡_, refl, sym, ap, _∙_, subst}
 use mathlib.Core.Logic.{_⊎_, inl, inr}
 use mathlib.Core.Bool.{Bool, true, false, _||_}
+use mathlib.Core.List.{[]}
 use lib.Dec.{T, lit≤}
 use lib.Ieee.{Float, binary32, eq}
+use lib.Ieee.Fits.{add-fits}
 use Rattle.float_steps.specs.Notation.{_⊕_, _⊖_, _⊗_, f0, f1}
 use Rattle.float_steps.specs.Order.{unitOf}
 use Rattle.ieee_laws.specs.Same.{plain, Same}
@@ -16,21 +18,37 @@ use Rattle.operators.specs.Operators.{convention}
 use Rattle.pictures.specs.declared.Rgba.{Rgba}
 use Rattle.pixels.specs.declared.Params.{Params}
 use Rattle.pixels.specs.Pixel.{pixelOf}
-use Rattle.public.specs.Compositing.{Mode, B, αo}
+use Rattle.public.specs.Compositing.{Mode, B, co, αo}
 use Rattle.public.specs.Operators.{Colour, at, blendOp}
-use Rattle.public.specs.BlendDifferences.{union, printed, spread, coBy, overUnion, storedBy, StoredOutside}
+use Rattle.public.specs.BlendSteps.{regrouped, mixedBy}
+use Rattle.public.proofs.Conventions.{spread-is, union, printed, spread, coBy, overUnion, storedBy, StoredOutside}
 use Rattle.public.specs.Range.{InUnit, InUnits, opaque, absent}
 use Rattle.public.proofs.Constants.{is-zero, is-one}
-use Rattle.public.proofs.InRange.{at-most-one, finite-of, complement-in, unit-at, held-of}
+use Rattle.public.proofs.InRange.{at-most-one, finite-of, same-in, zero-in, one-in, complement-in, unit-at, held-of}
 use Rattle.public.proofs.BlendRange.{blend-in}
-use Rattle.public.proofs.BlendEdges.{source-one, backdrop-one, source-zero, backdrop-zero, union-source-zero, union-backdrop-zero}
+use Rattle.public.proofs.BlendEdges.{source-whole, source-one, backdrop-one, source-zero, backdrop-zero, union-source-zero, union-backdrop-zero}
+use Rattle.public.proofs.MixtureRange.{mixed-in}
 use Rattle.public.proofs.Stored.{stored-is, union-alpha, over-union-same}
 
 pub or-split : (a b : Bool) → T (a || b) → T a ⊎ T b
 or-split true b t = inl tt
 or-split false b t = inr t
 
+-- what W3C mixes needs no clamp: it is what an opaque source's mixture comes to
+sum-in : {v s da : Float} → InUnit v → InUnit s → InUnit da → InUnit ((f1 ⊖ da) ⊗ s ⊕ da ⊗ v)
+sum-in {v} {s} {da} pv ps pda =
+    same-in ((f1 ⊖ da) ⊗ s ⊕ da ⊗ v) (coBy spread v s f1 f0 da) (add-fits binary32 ((f1 ⊖ da) ⊗ s) (da ⊗ v))
+    (sym (source-whole v s f0 da (pda .held) (finite-of pda) (finite-of zero-in))) (mixed-in pv ps one-in zero-in pda)
+
 module _ (s sa d da : Float) (ps : InUnit s) (psa : InUnit sa) (pd : InUnit d) (pda : InUnit da) where
+  unclamped : (v : Float) → InUnit v → coBy printed v s sa d da ≡ mixedBy [] v s sa d da
+  unclamped v pv =
+      let p = sum-in pv ps pda in
+      ap (λ (z : Float). sa ⊗ z ⊕ (f1 ⊖ sa) ⊗ da ⊗ d) (sym (unit-kept ((f1 ⊖ da) ⊗ s ⊕ da ⊗ v) (p .low) (p .high)))
+
+  pub co-unclamped : (m : Mode) → coBy printed (B m d s) s sa d da ≡ co m s sa d da
+  co-unclamped m = unclamped (B m d s) (blend-in m d s pd ps)
+
   -- ---- the mixing of a blended colour v
   full : (v : Float) → InUnit v → T (opaque sa da) → Same (coBy spread v s sa d da) (coBy printed v s sa d da)
   full v h o = elim (or-split (eq sa f1) (eq da f1) o) [
@@ -50,20 +68,24 @@ module _ (s sa d da : Float) (ps : InUnit s) (psa : InUnit sa) (pd : InUnit d) (
   pub mixed-at-edge : (v : Float) → InUnit v → T (opaque sa da || absent sa da) → Same (coBy spread v s sa d da) (coBy printed v s sa d da)
   mixed-at-edge v u o = elim (or-split (opaque sa da) (absent sa da) o) [ inl e ↦ full v u e | inr e ↦ none v u e ]
 
-  regrouped : (m : Mode) → T (opaque sa da || absent sa da) → (k : Convention) → Same (storedBy spread k m s sa d da) (storedBy printed k m s sa d da)
-  regrouped m o Premult =
+  -- W3C's mixing with its steps, and as printed
+  pub mixing-at-edge : (v : Float) → InUnit v → T (opaque sa da || absent sa da) → Same (mixedBy regrouped v s sa d da) (mixedBy [] v s sa d da)
+  mixing-at-edge v u o = ap plain (sym (spread-is s sa d da v)) ∙ mixed-at-edge v u o ∙ ap plain (unclamped v u)
+
+  stored-regrouped : (m : Mode) → T (opaque sa da || absent sa da) → (k : Convention) → Same (storedBy spread k m s sa d da) (storedBy printed k m s sa d da)
+  stored-regrouped m o Premult =
       let v = B m d s in
       let u = blend-in m d s pd ps in
       unit-same (coBy spread (unitOf v) s sa d da) (coBy printed (unitOf v) s sa d da)
       (mixed-at-edge (unitOf v) (subst InUnit (sym (unit-kept v (u .low) (u .high))) u) o)
-  regrouped m o Divided =
+  stored-regrouped m o Divided =
       let v = B m d s in
       let x = coBy spread v s sa d da in
       let y = coBy printed v s sa d da in
       let a = union sa da in
       unit-same (overUnion x a) (overUnion y a) (over-union-same s sa d da x y a (mixed-at-edge v (blend-in m d s pd ps) o))
-  regrouped m o OnPremult = refl
-  regrouped m o PremultOnly = refl
+  stored-regrouped m o OnPremult = refl
+  stored-regrouped m o PremultOnly = refl
 
   -- ---- alpha
   pub union-absent : T (absent sa da) → Same (union sa da) (αo sa da)
@@ -77,7 +99,7 @@ module _ (p : Params) (s d : Rgba) (ps : InUnits s) (pd : InUnits d) (c : Colour
   pub stored-at-edge : (m : Mode) → StoredOutside m (at c s) (s .a) (at c d) (d .a) → T (opaque (s .a) (d .a) || absent (s .a) (d .a))
       → Same (at c (pixelOf (blendOp m) p s d)) (storedBy printed (convention (blendOp m)) m (at c s) (s .a) (at c d) (d .a))
   stored-at-edge m x o =
-      stored-is p s d m (held-of s ps) (held-of d pd) c x ∙ regrouped (at c s) (s .a) (at c d) (d .a) (unit-at c s ps) (ps .a) (unit-at c d pd) (pd .a) m o (convention (blendOp m))
+      stored-is p s d m (held-of s ps) (held-of d pd) c x ∙ stored-regrouped (at c s) (s .a) (at c d) (d .a) (unit-at c s ps) (ps .a) (unit-at c d pd) (pd .a) m o (convention (blendOp m))
 
   pub alpha-at-edge : (m : Mode) → T (absent (s .a) (d .a)) → Same (pixelOf (blendOp m) p s d .a) (αo (s .a) (d .a))
   alpha-at-edge m o = ap plain (union-alpha p s d m) ∙ union-absent (at c s) (s .a) (at c d) (d .a) (unit-at c s ps) (ps .a) (unit-at c d pd) (pd .a) o

@@ -1,4 +1,5 @@
--- Where the steps of BlendDifferences.antt make no difference: the mixing, wherever one of the alphas is 0 or 1; alpha, where one is 0 and where both are 1. Assumes nothing.
+-- Where the steps of BlendSteps.antt make no difference: the mixing, where one of the alphas is 0 or 1 and the numbers are finite; alpha, where one is 0 and the other
+-- finite, and where both are 1. Assumes nothing.
 use mathlib.Core.Path.{_≡_, refl, sym, ap, _∙_}
 use lib.Dec.{T}
 use lib.Ieee.{Float, binary32, ofBits, add, mul, sub, fits}
@@ -9,7 +10,7 @@ use Rattle.ieee_laws.specs.Same.{plain, Same, Zero}
 use Rattle.ieee_laws.proofs.Commute.{add-commutes}
 use Rattle.ieee_laws.proofs.Zero.{times-zero, zero-times, plus-zero, zero-plus, minus-zero, add-same, mul-same}
 use Rattle.public.specs.Compositing.{αo}
-use Rattle.public.specs.BlendDifferences.{union, printed, spread, coBy}
+use Rattle.public.proofs.Conventions.{union, printed, spread, coBy}
 use Rattle.public.proofs.Constants.{by-one, one-by, nought, less-zero}
 
 -- a zero among three factors
@@ -26,18 +27,24 @@ fa : (x y : Float) → T (fits binary32 (x ⊕ y))
 fa x y = add-fits binary32 x y
 
 module _ (v s b : Float) where
-  -- an opaque source
-  pub source-one : (ba : Float) → T (fits binary32 ba) → T (finite ba) → T (finite b) → Same (coBy spread v s f1 b ba) (coBy printed v s f1 b ba)
-  source-one ba h g k =
+  -- an opaque source: what W3C mixes, Cs', alone
+  pub source-whole : (ba : Float) → T (fits binary32 ba) → T (finite ba) → T (finite b) → Same (coBy spread v s f1 b ba) ((f1 ⊖ ba) ⊗ s ⊕ ba ⊗ v)
+  source-whole ba h g k =
       let X = ba ⊗ v in
       let Y = (f1 ⊖ ba) ⊗ s in
       let N = ba ⊗ (f1 ⊖ f1) ⊗ b in
-      let M = (f1 ⊖ f1) ⊗ ba ⊗ b in
       (λ i. plain (one-by ba h i ⊗ v ⊕ (one-by (f1 ⊖ ba) (sub-fits binary32 f1 ba) i ⊗ s ⊕ N)))
       ∙ add-same binary32 X X (Y ⊕ N) Y refl (plus-zero binary32 Y N (fm (f1 ⊖ ba) s) (second ba (f1 ⊖ f1) b g nought k))
       ∙ ap plain (add-commutes binary32 X Y)
-      ∙ sym (plus-zero binary32 (Y ⊕ X) M (fa Y X) (first (f1 ⊖ f1) ba b nought g k))
-      ∙ ap (λ (w : Float). plain (w ⊕ M)) (sym (one-by (Y ⊕ X) (fa Y X)))
+
+  pub source-one : (ba : Float) → T (fits binary32 ba) → T (finite ba) → T (finite b) → Same (coBy spread v s f1 b ba) (coBy printed v s f1 b ba)
+  source-one ba h g k =
+      let S = (f1 ⊖ ba) ⊗ s ⊕ ba ⊗ v in
+      let M = (f1 ⊖ f1) ⊗ ba ⊗ b in
+      let S-fits = fa ((f1 ⊖ ba) ⊗ s) (ba ⊗ v) in
+      source-whole ba h g k
+      ∙ sym (plus-zero binary32 S M S-fits (first (f1 ⊖ f1) ba b nought g k))
+      ∙ ap (λ (w : Float). plain (w ⊕ M)) (sym (one-by S S-fits))
 
   -- an opaque backdrop
   pub backdrop-one : (sa : Float) → T (fits binary32 sa) → T (fits binary32 v) → T (finite sa) → T (finite s) → Same (coBy spread v s sa b f1) (coBy printed v s sa b f1)

@@ -1,81 +1,79 @@
--- The eleven operators that W3C defines, one theorem each: first a colour, then the alpha, which is the union. s is the source's pixel, d the destination's, and c any of
--- the three colours; all alphas, NaN and the infinities are included. A hypothesis excludes the inputs of a row of docs/DIFFERENCES.md, and nothing else. Each is an
--- instance of Stored.antt. Assumes nothing.
-use mathlib.Core.Path.{_≡_}
-use mathlib.Core.Logic.{_⊎_, inl}
-use mathlib.Core.Bool.{false, _&&_}
-use lib.Ieee.{Float, eq}
-use Rattle.float_steps.specs.Notation.{_⊕_, _⊗_, f2, half}
-use Rattle.float_steps.specs.Order.{unitOf}
-use Rattle.ieee_laws.specs.Same.{Same}
-use Rattle.operators.specs.declared.CompositeOp.{CompositeOp}
-use Rattle.operators.specs.declared.CompositeOp.the-variants as O
-use Rattle.operators.specs.declared.Convention.the-variants.{Divided}
+-- The operators that W3C defines, in theorems over the eleven modes. s is the source's pixel, d the destination's, and c any of the three colours. Assumes nothing.
+--   mode-is        a colour, but for a zero's sign, and the alpha are W3C's formula with the mode's steps exchanged (`steps`, specs/BlendSteps.antt) and nothing
+--                  else, for all values, NaN and the infinities included
+--   mode-with      a colour with W3C's B as printed, outside the inputs at which the blend functions differ
+--   mode-in-range  the same on numbers from 0 to 1, but for ColorBurn of black on white
+--   mode-empty     the colour of a mode that divides is 0 where its alpha is not above 0
+use mathlib.Core.Path.{_≡_, refl, sym, ap, _∙_}
+use mathlib.Core.Logic.{inl}
+use mathlib.Core.Bool.{Bool, false, cond}
+use lib.Dec.{T}
+use lib.Ieee.{Float, ofBits, lt}
+use Rattle.float_steps.specs.Notation.{_⊘_, f0}
+use Rattle.float_steps.specs.Order.{clampOf, unitOf}
+use Rattle.ieee_laws.specs.Same.{plain, Same}
 use Rattle.pictures.specs.declared.Rgba.{Rgba}
 use Rattle.pixels.specs.declared.Params.{Params}
 use Rattle.pixels.specs.Pixel.{pixelOf}
 use Rattle.public.specs.Compositing.{Mode, multiply, screen, overlay, darken, lighten, colorDodge, colorBurn, hardLight, softLight, difference, exclusion, B}
-use Rattle.public.specs.Operators.{Colour, at, Held}
-use Rattle.public.specs.BlendDifferences.{union, uncovered, spread, coBy, overUnion, infinite, DodgeOutside, BurnOutside, Unseen}
-use Rattle.public.proofs.Stored.{stored-is, stored-exact, union-alpha}
+use Rattle.public.specs.Operators.{Colour, at, Held, blendOp}
+use Rattle.public.specs.BlendSteps.{divided, among, argument, mixedBy, blendBy, steps, colourWith, colourBy, alphaBy}
+use Rattle.public.specs.BlendDifferences.{BlendOutside, burns}
+use Rattle.public.specs.Range.{InUnits}
+use Rattle.public.proofs.InRange.{unit-at, held-of}
+use Rattle.public.proofs.Domain.{stored-outside}
+use Rattle.public.proofs.Stored.{colour-by, colour-with, alpha-by}
 
-module _ (p : Params) (s d : Rgba) (hs : Held s) (hd : Held d) (c : Colour) where
-  -- the pixel's colour and alpha
-  abbrev C : CompositeOp → Float
-  C o = at c (pixelOf o p s d)
+pub mode-is : (m : Mode) (p : Params) (s d : Rgba) → Held s → Held d → (c : Colour)
+    → Same (at c (pixelOf (blendOp m) p s d)) (colourBy (steps m) m (at c s) (s .a) (at c d) (d .a))
+    × (pixelOf (blendOp m) p s d .a ≡ alphaBy (steps m) (s .a) (d .a))
+mode-is m p s d hs hd c = (colour-by p s d m hs hd c, alpha-by p s d m)
 
-  abbrev α : CompositeOp → Float
-  α o = pixelOf o p s d .a
+-- ---- with B as printed
+pub mode-with : (m : Mode) (p : Params) (s d : Rgba) → Held s → Held d → (c : Colour)
+    → BlendOutside m (argument (steps m) (at c s) (s .a)) (argument (steps m) (at c d) (d .a))
+    → Same (at c (pixelOf (blendOp m) p s d)) (colourWith (steps m) (B m) (at c s) (s .a) (at c d) (d .a))
+mode-with multiply p s d hs hd c x = colour-with p s d multiply hs hd c (inl x)
+mode-with screen p s d hs hd c x = colour-with p s d screen hs hd c (inl x)
+mode-with overlay p s d hs hd c x = colour-with p s d overlay hs hd c (inl x)
+mode-with darken p s d hs hd c x = colour-with p s d darken hs hd c (inl x)
+mode-with lighten p s d hs hd c x = colour-with p s d lighten hs hd c (inl x)
+mode-with colorDodge p s d hs hd c x = colour-with p s d colorDodge hs hd c (inl x)
+mode-with colorBurn p s d hs hd c x = colour-with p s d colorBurn hs hd c (inl x)
+mode-with hardLight p s d hs hd c x = colour-with p s d hardLight hs hd c (inl x)
+mode-with softLight p s d hs hd c x = colour-with p s d softLight hs hd c (inl x)
+mode-with difference p s d hs hd c x = colour-with p s d difference hs hd c (inl x)
+mode-with exclusion p s d hs hd c x = colour-with p s d exclusion hs hd c (inl x)
 
-  abbrev Cs : Float
-  Cs = at c s
+pub mode-in-range : (m : Mode) (p : Params) (s d : Rgba) → InUnits s → InUnits d → (c : Colour) → burns m (at c s) (s .a) (at c d) (d .a) ≡ false
+    → Same (at c (pixelOf (blendOp m) p s d)) (colourWith (steps m) (B m) (at c s) (s .a) (at c d) (d .a))
+mode-in-range m p s d ps pd c n = colour-with p s d m (held-of s ps) (held-of d pd) c (stored-outside (unit-at c s ps) (ps .a) (unit-at c d pd) (pd .a) m n)
 
-  abbrev Cb : Float
-  Cb = at c d
+-- ---- where nothing is covered
+zero-kept : unitOf f0 ≡ f0
+unfolding clampOf lt ofBits
+zero-kept = refl
 
-  -- co of a blended colour, αs multiplied into both of its parts
-  abbrev mixed : Float → Float
-  mixed v = coBy spread v (at c s) (s .a) (at c d) (d .a)
+-- over an alpha that is not above 0
+empty : (x a : Float) → lt f0 a ≡ false → Same (unitOf (cond (lt f0 a) (x ⊘ a) f0)) f0
+empty x a e = ap (λ (b : Bool). plain (unitOf (cond b (x ⊘ a) f0))) e ∙ ap plain zero-kept
 
-  abbrev αu : Float
-  αu = union (s .a) (d .a)
+pub mode-empty : (m : Mode) → T (among divided (steps m)) → (p : Params) (s d : Rgba) → Held s → Held d → (c : Colour)
+    → lt f0 (pixelOf (blendOp m) p s d .a) ≡ false → Same (at c (pixelOf (blendOp m) p s d)) f0
+mode-empty m w p s d hs hd c e = colour-by p s d m hs hd c ∙ go m w (ap (λ (a : Float). lt f0 a) (sym (alpha-by p s d m)) ∙ e)
+  where
+    mixed : Mode → Float
+    mixed m = mixedBy (steps m) (blendBy (steps m) m (at c d) (at c s)) (at c s) (s .a) (at c d) (d .a)
 
-  -- a mode's B does not show: nothing is covered, or the pictures do not overlap and B is finite
-  abbrev hidden : Mode → Type 0
-  hidden m = Unseen Divided (B m (at c d) (at c s)) (s .a) (d .a)
-
-  -- ---- stored as co is, B and the result clamped
-  pub multiply-is : (C O.Multiply ≡ unitOf (mixed (unitOf (B multiply Cb Cs)))) × (α O.Multiply ≡ αu)
-  multiply-is = (stored-exact p s d multiply tt c, union-alpha p s d multiply)
-
-  pub screen-is : (C O.Screen ≡ unitOf (mixed (unitOf (B screen Cb Cs)))) × (α O.Screen ≡ αu)
-  screen-is = (stored-exact p s d screen tt c, union-alpha p s d screen)
-
-  pub lighten-is : Same (C O.Lighten) (unitOf (mixed (unitOf (B lighten Cb Cs)))) × (α O.Lighten ≡ αu)
-  lighten-is = (stored-is p s d lighten hs hd c (inl tt), union-alpha p s d lighten)
-
-  pub difference-is : (C O.Difference ≡ unitOf (mixed (unitOf (B difference Cb Cs)))) × (α O.Difference ≡ αu)
-  difference-is = (stored-exact p s d difference tt c, union-alpha p s d difference)
-
-  -- ---- stored as co over the union alpha, the result clamped
-  pub overlay-is : ((eq Cb half && infinite Cs ≡ false) ⊎ hidden overlay → Same (C O.Overlay) (unitOf (overUnion (mixed (B overlay Cb Cs)) αu))) × (α O.Overlay ≡ αu)
-  overlay-is = (stored-is p s d overlay hs hd c, union-alpha p s d overlay)
-
-  pub hard-light-is : ((eq Cs half && infinite Cb ≡ false) ⊎ hidden hardLight → Same (C O.HardLight) (unitOf (overUnion (mixed (B hardLight Cb Cs)) αu))) × (α O.HardLight ≡ αu)
-  hard-light-is = (stored-is p s d hardLight hs hd c, union-alpha p s d hardLight)
-
-  pub soft-light-is : (C O.SoftLight ≡ unitOf (overUnion (mixed (B softLight Cb Cs)) αu)) × (α O.SoftLight ≡ αu)
-  soft-light-is = (stored-exact p s d softLight tt c, union-alpha p s d softLight)
-
-  pub color-dodge-is : (DodgeOutside Cs Cb ⊎ hidden colorDodge → Same (C O.ColorDodge) (unitOf (overUnion (mixed (B colorDodge Cb Cs)) αu))) × (α O.ColorDodge ≡ αu)
-  color-dodge-is = (stored-is p s d colorDodge hs hd c, union-alpha p s d colorDodge)
-
-  pub color-burn-is : (BurnOutside Cs Cb ⊎ hidden colorBurn → Same (C O.ColorBurn) (unitOf (overUnion (mixed (B colorBurn Cb Cs)) αu))) × (α O.ColorBurn ≡ αu)
-  color-burn-is = (stored-is p s d colorBurn hs hd c, union-alpha p s d colorBurn)
-
-  -- ---- B of the premultiplied colours
-  pub darken-is : Same (C O.Darken) (unitOf (unitOf (B darken (Cb ⊗ d .a) (Cs ⊗ s .a)) ⊕ uncovered Cs (s .a) Cb (d .a))) × (α O.Darken ≡ αu)
-  darken-is = (stored-is p s d darken hs hd c (inl tt), union-alpha p s d darken)
-
-  pub exclusion-is : (Same (f2 ⊗ (Cs ⊗ s .a) ⊗ (Cb ⊗ d .a)) (f2 ⊗ (Cb ⊗ d .a) ⊗ (Cs ⊗ s .a)) → Same (C O.Exclusion) (unitOf (B exclusion (Cb ⊗ d .a) (Cs ⊗ s .a)))) × (α O.Exclusion ≡ αu)
-  exclusion-is = (λ x. stored-is p s d exclusion hs hd c (inl x), union-alpha p s d exclusion)
+    go : (m : Mode) → T (among divided (steps m)) → lt f0 (alphaBy (steps m) (s .a) (d .a)) ≡ false → Same (colourBy (steps m) m (at c s) (s .a) (at c d) (d .a)) f0
+    go multiply w e = absurd w
+    go screen w e = absurd w
+    go overlay w e = empty (mixed overlay) (alphaBy (steps overlay) (s .a) (d .a)) e
+    go darken w e = absurd w
+    go lighten w e = absurd w
+    go colorDodge w e = empty (mixed colorDodge) (alphaBy (steps colorDodge) (s .a) (d .a)) e
+    go colorBurn w e = empty (mixed colorBurn) (alphaBy (steps colorBurn) (s .a) (d .a)) e
+    go hardLight w e = empty (mixed hardLight) (alphaBy (steps hardLight) (s .a) (d .a)) e
+    go softLight w e = empty (mixed softLight) (alphaBy (steps softLight) (s .a) (d .a)) e
+    go difference w e = absurd w
+    go exclusion w e = absurd w

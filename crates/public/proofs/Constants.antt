@@ -15,7 +15,7 @@ use Rattle.ieee_laws.proofs.Zero.{times-zero, plus-zero, minus-zero, of-plain}
 use Rattle.ieee_laws.proofs.Order.{eq-same, eq-zeros}
 use Rattle.ieee_laws.proofs.Clamp.{zero-fits, one-fits}
 
-one-is : f1 ≡ one
+pub one-is : f1 ≡ one
 unfolding ofBits
 one-is = refl
 

@@ -1,5 +1,5 @@
--- On the documents' own domain, numbers from 0 to 1, the inputs that the theorems exclude come down to two: Over and DstOver where both alphas are 0, and ColorBurn of black on white where both pictures cover. Every other
--- hypothesis of PorterDuff.antt and Compositing.antt holds there. Assumes nothing.
+-- On the documents' own domain, numbers from 0 to 1: every hypothesis of PorterDuff.antt holds there but the one for the colours of Over and DstOver, that the coverage is not at
+-- most 0; and what W3C's modes store is so with B as printed, but for ColorBurn of black on white where the product of the alphas is not 0. Assumes nothing.
 use mathlib.Core.Path.{_≡_, refl, sym, _∙_, subst}
 use mathlib.Core.Logic.{inl, inr}
 use mathlib.Core.Bool.{Bool, true, false, not, _&&_, true≢false}
@@ -14,7 +14,8 @@ use Rattle.ieee_laws.proofs.Bound.{add-unsigned}
 use Rattle.public.specs.PorterDuff.{Operator, clear, A, B, AoverB, BoverA, AinB, BinA, AoutB, BoutA, AatopB, BatopA, AxorB, AplusB}
 use Rattle.public.specs.Compositing.{Mode, multiply, screen, overlay, darken, lighten, colorDodge, colorBurn, hardLight, softLight, difference, exclusion}
 use Rattle.public.specs.FractionDifferences.{Cleared, ColourOutside, AlphaOutside}
-use Rattle.public.specs.BlendDifferences.{infinite, StoredOutside}
+use Rattle.public.specs.BlendDifferences.{infinite, burns}
+use Rattle.public.proofs.Conventions.{StoredOutside}
 use Rattle.public.specs.Range.{InUnit}
 use Rattle.public.proofs.Constants.{is-zero, none-left}
 use Rattle.public.proofs.LeftOut.{left-finite}
@@ -97,16 +98,12 @@ module _ {s sa d da : Float} (ps : InUnit s) (psa : InUnit sa) (pd : InUnit d) (
       and-false true b e = e
       and-false false b e = refl
 
-  -- black on white, where both pictures cover
-  abbrev burns : Bool
-  burns = eq s f0 && (eq d f1 && not (eq (sa ⊗ da) f0))
-
   not-white : (u v : Bool) → T u → u && (v && true) ≡ false → v ≡ false
   not-white true true t n = n
   not-white true false t n = refl
   not-white false v t n = absurd t
 
-  pub stored-outside : (m : Mode) → (burns ≡ false) → StoredOutside m s sa d da
+  pub stored-outside : (m : Mode) → burns m s sa d da ≡ false → StoredOutside m s sa d da
   stored-outside multiply n = inl tt
   stored-outside screen n = inl tt
   stored-outside overlay n = inl (not-infinite (eq d half) ps)

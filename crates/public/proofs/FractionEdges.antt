@@ -1,5 +1,5 @@
--- Where the steps of FractionDifferences.antt make no difference: a product regrouped, if the coverage or the fraction is 0 or 1; Atop's alpha, if the source covers all or
--- nothing or the destination nothing; Plus's cut, if the sum is a number not above 1; Over where neither picture covers. Assumes nothing.
+-- Where the steps of FractionDifferences.antt make no difference: a product regrouped, if the coverage or the fraction is 0 or 1 and the others are finite; Atop's alpha, if it is
+-- finite and the source covers all or nothing, or if the destination covers nothing; Plus's cut, if the sum is a number not above 1. Assumes nothing.
 use mathlib.Core.Path.{_≡_, refl, sym, ap, _∙_}
 use mathlib.Core.Bool.{false, cond}
 use lib.Dec.{T}
@@ -9,9 +9,8 @@ use lib.Ieee.Scale.{finite}
 use Rattle.float_steps.specs.Notation.{_⊕_, _⊖_, _⊗_, f1}
 use Rattle.float_steps.specs.Order.{smallerOf}
 use Rattle.ieee_laws.specs.Same.{plain, Same, Zero}
-use Rattle.ieee_laws.proofs.Commute.{add-commutes}
 use Rattle.ieee_laws.proofs.Zero.{times-zero, zero-times, plus-zero, zero-plus, mul-same}
-use Rattle.public.specs.PorterDuff.{AatopB, BatopA, coverage}
+use Rattle.public.specs.PorterDuff.{AatopB, coverage}
 use Rattle.public.specs.FractionDifferences.{printed, coverageFirst, part}
 use Rattle.public.proofs.Constants.{by-one, one-by, nought, less-zero}
 
@@ -31,7 +30,7 @@ module _ (C α F : Float) where
   pub no-fraction : T (finite C) → T (finite α) → T (finite (C ⊗ α)) → Zero F → Same (part coverageFirst C α F) (part printed C α F)
   no-fraction h k g z = times-zero binary32 C (α ⊗ F) h (times-zero binary32 α F k z) ∙ sym (times-zero binary32 (C ⊗ α) F g z)
 
--- ---- Atop: y is the alpha that is kept, x the other one's; DstAtop is the same with the pictures exchanged
+-- ---- Atop: y is the alpha that is kept, x the other one's
 abbrev sum : Float → Float → Float
 sum x y = x ⊗ y ⊕ y ⊗ (f1 ⊖ x)
 
@@ -56,18 +55,6 @@ module _ (αA αB : Float) where
 
   pub atop-bare : T (finite αA) → T (finite (f1 ⊖ αA)) → Zero αB → Same αB (coverage AatopB αA αB)
   atop-bare h k z = kept-bare αA αB h k z
-
-  exchanged : Same (sum αB αA) (coverage BatopA αA αB)
-  exchanged = ap plain (add-commutes binary32 (αB ⊗ αA) (αA ⊗ (f1 ⊖ αB))) ∙ ap (λ (z : Float). plain (αA ⊗ (f1 ⊖ αB) ⊕ z)) refl
-
-  pub dst-atop-full : T (fits binary32 αA) → T (finite αA) → αB ≡ f1 → Same αA (coverage BatopA αA αB)
-  dst-atop-full h k e = kept-full αB αA h k e ∙ exchanged
-
-  pub dst-atop-none : T (fits binary32 αA) → T (finite αA) → Zero αB → Same αA (coverage BatopA αA αB)
-  dst-atop-none h k z = kept-none αB αA h k z ∙ exchanged
-
-  pub dst-atop-bare : T (finite αB) → T (finite (f1 ⊖ αB)) → Zero αA → Same αA (coverage BatopA αA αB)
-  dst-atop-bare h k z = kept-bare αB αA h k z ∙ exchanged
 
 -- ---- Plus
 pub not-cut : (p : Float) → isNan p ≡ false → lt f1 p ≡ false → smallerOf p f1 ≡ p

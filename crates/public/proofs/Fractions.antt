@@ -40,7 +40,7 @@ over-alpha a s d = go (le a f0)
     go true = refl
     go false = refl
 
-over-colour : (c : Colour) (a : Float) (s d : Rgba) → le a f0 ≡ false → at c (overBy a s d) ≡ overChannel a (at c s) (at c d) (s .a) (d .a)
+pub over-colour : (c : Colour) (a : Float) (s d : Rgba) → le a f0 ≡ false → at c (overBy a s d) ≡ overChannel a (at c s) (at c d) (s .a) (d .a)
 unfolding overBy
 over-colour c a s d h =
     let f : Float → Float → Float = λ x y. overChannel a x y (s .a) (d .a) in
@@ -68,7 +68,7 @@ exchanged-alpha a s d = ap (λ (x : Float). cond (le x f0) (withAlpha d f0) (ove
     go true e = same (le f0 f0) ∙ ap (λ (x : Float). cond (le f0 f0) f0 x) (over-alpha a d s ∙ ap (λ (b : Bool). cond b f0 a) e) ∙ pick (le f0 f0)
     go false e = same (le a f0) ∙ (λ i. cond (e i) f0 (over-alpha a d s i)) ∙ ap (λ (b : Bool). cond b f0 a) e
 
-exchanged-colour : (c : Colour) (a : Float) (s d : Rgba) → le a f0 ≡ false → at c (keptWhereClear (overBy a d s) d) ≡ overChannel a (at c d) (at c s) (d .a) (s .a)
+pub exchanged-colour : (c : Colour) (a : Float) (s d : Rgba) → le a f0 ≡ false → at c (keptWhereClear (overBy a d s) d) ≡ overChannel a (at c d) (at c s) (d .a) (s .a)
 unfolding keptWhereClear
 exchanged-colour c a s d h =
     let above : le (overBy a d s .a) f0 ≡ false = ap (λ (x : Float). le x f0) (over-alpha a d s ∙ ap (λ (b : Bool). cond b f0 a) h) ∙ h in

@@ -87,6 +87,9 @@ in-unit x h l u = record { held = h; number = a-number x u; low = l; high = not-
 pub in-unit-same : (x y : Float) → T (fits binary32 x) → Same x y → Unsigned y → AtMost 1 y → InUnit x
 in-unit-same x y h e p u = in-unit x h (lt-same x y f0 f0 e refl ∙ not-below y p) (same-bound 1 x y e u)
 
+pub same-in : (x y : Float) → T (fits binary32 x) → Same x y → InUnit y → InUnit x
+same-in x y h e q = in-unit-same x (plain y) h (e ∙ sym (plain-twice y)) (unsigned q) (plain-bound 1 y (at-most-one q))
+
 pub zero-in : InUnit f0
 unfolding ofBits lt isNan
 zero-in = record { held = zero-fits; number = refl; low = refl; high = refl }

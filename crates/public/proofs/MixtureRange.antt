@@ -12,7 +12,7 @@ use Rattle.ieee_laws.specs.Same.{plain, Same}
 use Rattle.ieee_laws.specs.Size.{AtMost, Unsigned, Counts}
 use Rattle.ieee_laws.proofs.Zero.{plain-twice, add-same, mul-same, sub-same}
 use Rattle.ieee_laws.proofs.Units.{add-counts, round-counts}
-use Rattle.public.specs.BlendDifferences.{spread, coBy}
+use Rattle.public.proofs.Conventions.{spread, coBy}
 use Rattle.public.specs.Range.{InUnit}
 use Rattle.public.proofs.InRange.{unsigned, in-unit-same, plain-in}
 use Rattle.public.proofs.Mixture.{mixture}

@@ -1,5 +1,5 @@
--- Multiply, Screen, Lighten, Difference and Exclusion on numbers from 0 to 1: the clamps have nothing to do. The stored colour of the first four is W3C's formula with its mixing
--- step alone, and where an alpha is 0 or 1 it is W3C's co as printed. Assumes nothing.
+-- Multiply, Screen, Lighten, Difference and Exclusion on numbers from 0 to 1: the clamps have nothing to do. The stored colour of the first four is W3C's formula with
+-- the four steps of its mixing alone, and where an alpha is 0 or 1 it is W3C's co as printed. Assumes nothing.
 use mathlib.Core.Path.{_≡_, ap, _∙_}
 use mathlib.Core.Logic.{inl}
 use mathlib.Core.Bool.{Bool, true, false, _||_}
@@ -14,13 +14,14 @@ use Rattle.pixels.specs.declared.Params.{Params}
 use Rattle.pixels.specs.Pixel.{pixelOf}
 use Rattle.public.specs.Compositing.{Mode, multiply, screen, overlay, darken, lighten, colorDodge, colorBurn, hardLight, softLight, difference, exclusion, B, co}
 use Rattle.public.specs.Operators.{Colour, at, blendOp}
-use Rattle.public.specs.BlendDifferences.{spread, coBy}
+use Rattle.public.specs.BlendSteps.{regrouped, mixedBy}
+use Rattle.public.proofs.Conventions.{spread, coBy, spread-is}
 use Rattle.public.specs.Range.{InUnit, InUnits, opaque, absent}
 use Rattle.public.proofs.InRange.{unit-at, held-of, product-in, doubles-in}
 use Rattle.public.proofs.BlendRange.{blend-in}
 use Rattle.public.proofs.Blends.{doubled-alike}
 use Rattle.public.proofs.MixtureRange.{mixed-in}
-use Rattle.public.proofs.AtEdges.{mixed-at-edge}
+use Rattle.public.proofs.AtEdges.{mixed-at-edge, co-unclamped}
 use Rattle.public.proofs.Stored.{stored-is}
 
 -- the modes that store co as it is
@@ -47,25 +48,31 @@ module _ (p : Params) (s d : Rgba) (ps : InUnits s) (pd : InUnits d) (c : Colour
       ap (λ (z : Float). unitOf (coBy spread z (at c s) (s .a) (at c d) (d .a))) (kept v pv)
       ∙ kept (coBy spread v (at c s) (s .a) (at c d) (d .a)) (mixed-in pv (unit-at c s ps) (ps .a) (unit-at c d pd) (pd .a))
 
-  pub no-clamp : (m : Mode) → T (mixes m) → Same (at c (pixelOf (blendOp m) p s d)) (coBy spread (B m (at c d) (at c s)) (at c s) (s .a) (at c d) (d .a))
-  no-clamp multiply w = stored-is p s d multiply (held-of s ps) (held-of d pd) c (inl tt) ∙ ap plain (twice-kept (B multiply (at c d) (at c s)) (blend-in multiply (at c d) (at c s) (unit-at c d pd) (unit-at c s ps)))
-  no-clamp screen w = stored-is p s d screen (held-of s ps) (held-of d pd) c (inl tt) ∙ ap plain (twice-kept (B screen (at c d) (at c s)) (blend-in screen (at c d) (at c s) (unit-at c d pd) (unit-at c s ps)))
-  no-clamp lighten w = stored-is p s d lighten (held-of s ps) (held-of d pd) c (inl tt) ∙ ap plain (twice-kept (B lighten (at c d) (at c s)) (blend-in lighten (at c d) (at c s) (unit-at c d pd) (unit-at c s ps)))
-  no-clamp difference w = stored-is p s d difference (held-of s ps) (held-of d pd) c (inl tt) ∙ ap plain (twice-kept (B difference (at c d) (at c s)) (blend-in difference (at c d) (at c s) (unit-at c d pd) (unit-at c s ps)))
-  no-clamp overlay w = absurd w
-  no-clamp darken w = absurd w
-  no-clamp colorDodge w = absurd w
-  no-clamp colorBurn w = absurd w
-  no-clamp hardLight w = absurd w
-  no-clamp softLight w = absurd w
-  no-clamp exclusion w = absurd w
+  spread-alone : (m : Mode) → T (mixes m) → Same (at c (pixelOf (blendOp m) p s d)) (coBy spread (B m (at c d) (at c s)) (at c s) (s .a) (at c d) (d .a))
+  spread-alone multiply w = stored-is p s d multiply (held-of s ps) (held-of d pd) c (inl tt) ∙ ap plain (twice-kept (B multiply (at c d) (at c s)) (blend-in multiply (at c d) (at c s) (unit-at c d pd) (unit-at c s ps)))
+  spread-alone screen w = stored-is p s d screen (held-of s ps) (held-of d pd) c (inl tt) ∙ ap plain (twice-kept (B screen (at c d) (at c s)) (blend-in screen (at c d) (at c s) (unit-at c d pd) (unit-at c s ps)))
+  spread-alone lighten w = stored-is p s d lighten (held-of s ps) (held-of d pd) c (inl tt) ∙ ap plain (twice-kept (B lighten (at c d) (at c s)) (blend-in lighten (at c d) (at c s) (unit-at c d pd) (unit-at c s ps)))
+  spread-alone difference w = stored-is p s d difference (held-of s ps) (held-of d pd) c (inl tt) ∙ ap plain (twice-kept (B difference (at c d) (at c s)) (blend-in difference (at c d) (at c s) (unit-at c d pd) (unit-at c s ps)))
+  spread-alone overlay w = absurd w
+  spread-alone darken w = absurd w
+  spread-alone colorDodge w = absurd w
+  spread-alone colorBurn w = absurd w
+  spread-alone hardLight w = absurd w
+  spread-alone softLight w = absurd w
+  spread-alone exclusion w = absurd w
 
-  pub exact-at-edge : (m : Mode) → T (mixes m) → T (opaque (s .a) (d .a) || absent (s .a) (d .a)) → Same (at c (pixelOf (blendOp m) p s d)) (co m (at c s) (s .a) (at c d) (d .a))
+  -- W3C's formula with the four steps of the mixing alone
+  pub no-clamp : (m : Mode) → T (mixes m) → Same (at c (pixelOf (blendOp m) p s d)) (mixedBy regrouped (B m (at c d) (at c s)) (at c s) (s .a) (at c d) (d .a))
+  no-clamp m w = spread-alone m w ∙ ap plain (spread-is (at c s) (s .a) (at c d) (d .a) (B m (at c d) (at c s)))
+
+  pub exact-at-edge : (m : Mode) → T (mixes m) → T (opaque (s .a) (d .a) || absent (s .a) (d .a))
+      → Same (at c (pixelOf (blendOp m) p s d)) (co m (at c s) (s .a) (at c d) (d .a))
   exact-at-edge m w o =
       let b = unit-at c d pd in
       let f = unit-at c s ps in
-      no-clamp m w
+      spread-alone m w
       ∙ mixed-at-edge (at c s) (s .a) (at c d) (d .a) f (ps .a) b (pd .a) (B m (at c d) (at c s)) (blend-in m (at c d) (at c s) b f) o
+      ∙ ap plain (co-unclamped (at c s) (s .a) (at c d) (d .a) f (ps .a) b (pd .a) m)
 
   pub exclusion-no-clamp : Same (at c (pixelOf (blendOp exclusion) p s d)) (B exclusion (at c d ⊗ d .a) (at c s ⊗ s .a))
   exclusion-no-clamp =

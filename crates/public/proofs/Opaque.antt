@@ -1,6 +1,6 @@
--- Two opaque pixels of numbers from 0 to 1: every mode is W3C's printed formula, with no clamp to be seen. Alpha is W3C's. Assumes nothing.
+-- Two opaque pixels of numbers from 0 to 1: every mode is W3C's formula as printed, but for ColorBurn of black on white. Alpha is W3C's. Assumes nothing.
 use mathlib.Core.Path.{_≡_, refl, sym, ap, _∙_}
-use mathlib.Core.Bool.{Bool, cond}
+use mathlib.Core.Bool.{Bool, false, cond}
 use lib.Dec.{T}
 use lib.Ieee.{Float, binary32, ofBits, add, sub, mul, fits, lt}
 use lib.Ieee.Fits.{mul-fits, add-fits}
@@ -17,12 +17,15 @@ use Rattle.pixels.specs.declared.Params.{Params}
 use Rattle.pixels.specs.Pixel.{pixelOf}
 use Rattle.public.specs.Compositing.{Mode, B, co, αo}
 use Rattle.public.specs.Operators.{Colour, at, blendOp}
-use Rattle.public.specs.BlendDifferences.{union, uncovered, spread, coBy, overUnion, storedBy, StoredOutside}
+use Rattle.public.proofs.Conventions.{union, uncovered, spread, coBy, overUnion, storedBy}
+use Rattle.public.specs.BlendDifferences.{burns}
 use Rattle.public.specs.Range.{InUnit, InUnits}
 use Rattle.public.proofs.Constants.{zero-below-one, by-one, one-by, divided-by-one, nought}
 use Rattle.public.proofs.InRange.{finite-of, one-in, unit-at, held-of}
 use Rattle.public.proofs.BlendRange.{blend-in}
 use Rattle.public.proofs.BlendEdges.{second, source-one, union-both-one}
+use Rattle.public.proofs.Domain.{stored-outside}
+use Rattle.public.proofs.AtEdges.{co-unclamped}
 use Rattle.public.proofs.Stored.{stored-is, union-alpha}
 
 union-one : union f1 f1 ≡ f1
@@ -48,7 +51,9 @@ module _ (s d : Float) (ps : InUnit s) (pd : InUnit d) where
 
   -- W3C's own formula gives B
   co-is : (m : Mode) → Same (co m s f1 d f1) (B m d s)
-  co-is m = let v = B m d s in sym (source-one v s d f1 one-fits (finite-of one-in) (finite-of pd)) ∙ just v (blend-in m d s pd ps .held)
+  co-is m =
+      let v = B m d s in
+      ap plain (sym (co-unclamped s f1 d f1 ps one-in pd one-in m)) ∙ sym (source-one v s d f1 one-fits (finite-of one-in) (finite-of pd)) ∙ just v (blend-in m d s pd ps .held)
 
   -- and each convention stores the clamped B
   stored : (k : Convention) (m : Mode) → Same (storedBy spread k m s f1 d f1) (unitOf (B m d s))
@@ -67,16 +72,16 @@ module _ (s d : Float) (ps : InUnit s) (pd : InUnit d) where
   stored PremultOnly m = λ i. plain (unitOf (B m (by-one d (pd .held) i) (by-one s (ps .held) i)))
 
 module _ (p : Params) (s d : Rgba) (ps : InUnits s) (pd : InUnits d) (es : s .a ≡ f1) (ed : d .a ≡ f1) (c : Colour) (m : Mode) where
-  blend : StoredOutside m (at c s) (s .a) (at c d) (d .a) → Same (at c (pixelOf (blendOp m) p s d)) (unitOf (B m (at c d) (at c s)))
-  blend x =
-      stored-is p s d m (held-of s ps) (held-of d pd) c x
+  blend : burns m (at c s) (s .a) (at c d) (d .a) ≡ false → Same (at c (pixelOf (blendOp m) p s d)) (unitOf (B m (at c d) (at c s)))
+  blend n =
+      stored-is p s d m (held-of s ps) (held-of d pd) c (stored-outside (unit-at c s ps) (ps .a) (unit-at c d pd) (pd .a) m n)
       ∙ (λ i. plain (storedBy spread (convention (blendOp m)) m (at c s) (es i) (at c d) (ed i)))
       ∙ stored (at c s) (at c d) (unit-at c s ps) (unit-at c d pd) (convention (blendOp m)) m
 
-  pub opaque-exact : StoredOutside m (at c s) (s .a) (at c d) (d .a) → Same (at c (pixelOf (blendOp m) p s d)) (co m (at c s) f1 (at c d) f1)
-  opaque-exact x =
+  pub opaque-exact : burns m (at c s) (s .a) (at c d) (d .a) ≡ false → Same (at c (pixelOf (blendOp m) p s d)) (co m (at c s) f1 (at c d) f1)
+  opaque-exact n =
       let q = blend-in m (at c d) (at c s) (unit-at c d pd) (unit-at c s ps) in
-      blend x ∙ ap plain (unit-kept (B m (at c d) (at c s)) (q .low) (q .high)) ∙ sym (co-is (at c s) (at c d) (unit-at c s ps) (unit-at c d pd) m)
+      blend n ∙ ap plain (unit-kept (B m (at c d) (at c s)) (q .low) (q .high)) ∙ sym (co-is (at c s) (at c d) (unit-at c s ps) (unit-at c d pd) m)
 
   pub opaque-alpha : pixelOf (blendOp m) p s d .a ≡ αo f1 f1
   opaque-alpha = union-alpha p s d m ∙ (λ i. union (es i) (ed i)) ∙ union-both-one

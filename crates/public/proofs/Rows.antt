@@ -1,4 +1,4 @@
--- At the input of each row the compositor's result is not the document's: by computation. Assumes nothing.
+-- At the input of each row the compositor's value is not the document's, and the row's step makes a difference: by computation. Assumes nothing.
 use lib.Dec.{T}
 use lib.Ieee.{toBits, ofBits, add, sub, mul, div, rem, lt, le, eq, isNan}
 use Rattle.float_steps.specs.Order.{smallerOf, largerOf, clampOf}
@@ -9,9 +9,14 @@ use Rattle.blends.specs.Blends.{hardLightOf, softLightOf, curveOf, colorDodgeOf
 use Rattle.blends.specs.Hsl.{saturationOf, hueOf, hslBy, upperOf, rampOf, rgbBy, hslToRgbOf}
 use Rattle.pixels.specs.Channel.{overUnionOf}
 use Rattle.pixels.specs.Pixel.{straightOrClearOf, overBy, keptWhereClear}
-use Rattle.public.specs.Compositing.{hardLightB, softLightB, D, colorDodgeB, colorBurnB}
-use Rattle.public.specs.Rows.{all, rows}
+use Rattle.public.specs.Compositing.{softLightB, D}
+use Rattle.public.specs.BlendSteps.{hardLightBy, colorDodgeBy, colorBurnBy}
+use Rattle.public.specs.Rows.{all, differs, rows, stepsShown}
 
-pub rows-differ : T (all rows)
-unfolding saturationOf hueOf hslBy upperOf rampOf rgbBy hslToRgbOf remEuclidOf rem straightOrClearOf overBy keptWhereClear overUnionOf hardLightOf softLightOf curveOf colorDodgeOf colorBurnOf hardLightB softLightB D colorDodgeB colorBurnB sqrtOf smallerOf largerOf clampOf absOf toBits ofBits add sub mul div lt le eq isNan
+pub rows-differ : T (all differs rows)
+unfolding saturationOf hueOf hslBy upperOf rampOf rgbBy hslToRgbOf remEuclidOf rem straightOrClearOf overBy keptWhereClear overUnionOf hardLightOf softLightOf curveOf colorDodgeOf colorBurnOf hardLightBy softLightB D colorDodgeBy colorBurnBy sqrtOf smallerOf largerOf clampOf absOf toBits ofBits add sub mul div lt le eq isNan
 rows-differ = tt
+
+-- and every step of every operator has such a row
+pub steps-shown : T stepsShown
+steps-shown = tt

@@ -1,5 +1,5 @@
--- Every operator that W3C defines is W3C's: each colour of the compositor's pixel is W3C's formula with the steps of BlendDifferences.antt, for all alphas, and outside
--- its inputs; the alpha is the union. The formula is proved once for each convention, over the blend function. Assumes nothing.
+-- Every operator that W3C defines is W3C's: each colour of the compositor's pixel, and its alpha, is W3C's formula with the steps of BlendSteps.antt, for all values. The formula
+-- is proved once for each convention, over the blend function. Assumes nothing.
 use mathlib.Core.Path.{_≡_, refl, sym, ap, _∙_, subst}
 use mathlib.Core.Logic.{inl, inr}
 use mathlib.Core.Bool.{Bool, true, false, cond}
@@ -21,8 +21,10 @@ use Rattle.pixels.specs.Channel.{channelOf, overUnionOf, overAlphaOf}
 use Rattle.pixels.specs.Pixel.{pixelOf, blendOf, mathematicalOf}
 use Rattle.public.specs.Compositing.{Mode, multiply, screen, overlay, darken, lighten, colorDodge, colorBurn, hardLight, softLight, difference, exclusion, B}
 use Rattle.public.specs.Operators.{Colour, at, Held, blendOp}
-use Rattle.public.specs.BlendDifferences.{union, uncovered, spread, coBy, overUnion, blended, storedBy, Unseen, StoredOutside}
-use Rattle.public.proofs.Blends.{blend-is, alike, blend-exact}
+use Rattle.public.specs.BlendSteps.{steps, blendBy, colourWith, colourBy, alphaBy}
+use Rattle.public.proofs.Conventions.{union, uncovered, spread, coBy, overUnion, blended, storedWith, storedBy, Unseen, StoredOutside, by-steps}
+use Rattle.public.proofs.BlendSteps.{blend-by}
+use Rattle.public.proofs.Blends.{blend-is, blend-exact}
 use Rattle.public.proofs.BlendsFinite.{dodge-finite, burn-finite, hard-finite}
 use Rattle.public.proofs.Pixels.{held-at, on-colours}
 
@@ -66,34 +68,27 @@ module _ (s sa d da : Float) where
       let x = coBy spread (f s d) s sa d da in
       ap (λ (z : Float). plain (unitOf z)) (over-union-is x a) ∙ unit-same (overUnion x a) (overUnion (coBy spread (B m d s) s sa d da) a) (unseen (f s d) (B m d s) h u)
 
-  -- a blend function f that gives what B does
-  by-convention : (k : Convention) (f : Float → Float → Float) (m : Mode) → Same (f (blended k s sa) (blended k d da)) (B m (blended k d da) (blended k s sa))
-      → Same (channelOf k f s d sa da) (storedBy spread k m s sa d da)
-  by-convention Premult f m e =
+  -- a blend function f that gives what g does
+  by-convention : (k : Convention) (f g : Float → Float → Float) → Same (f (blended k s sa) (blended k d da)) (g (blended k d da) (blended k s sa))
+      → Same (channelOf k f s d sa da) (storedWith spread k g s sa d da)
+  by-convention Premult f g e =
       let x = unitOf (f s d) in
-      let y = unitOf (B m d s) in
-      unit-same (coBy spread x s sa d da) (coBy spread y s sa d da) (spread-same x y (unit-same (f s d) (B m d s) e))
-  by-convention Divided f m e =
+      let y = unitOf (g d s) in
+      unit-same (coBy spread x s sa d da) (coBy spread y s sa d da) (spread-same x y (unit-same (f s d) (g d s) e))
+  by-convention Divided f g e =
       let x = coBy spread (f s d) s sa d da in
-      let y = coBy spread (B m d s) s sa d da in
+      let y = coBy spread (g d s) s sa d da in
       let a = union sa da in
-      ap (λ (z : Float). plain (unitOf z)) (over-union-is x a) ∙ unit-same (overUnion x a) (overUnion y a) (over-union-same x y a (spread-same (f s d) (B m d s) e))
-  by-convention OnPremult f m e =
+      ap (λ (z : Float). plain (unitOf z)) (over-union-is x a) ∙ unit-same (overUnion x a) (overUnion y a) (over-union-same x y a (spread-same (f s d) (g d s) e))
+  by-convention OnPremult f g e =
       let t = uncovered s sa d da in
       let x = f (s ⊗ sa) (d ⊗ da) in
-      let y = B m (d ⊗ da) (s ⊗ sa) in
+      let y = g (d ⊗ da) (s ⊗ sa) in
       unit-same (unitOf x ⊕ t) (unitOf y ⊕ t) (add-same binary32 (unitOf x) (unitOf y) t t (unit-same x y e) refl)
-  by-convention PremultOnly f m e =
+  by-convention PremultOnly f g e =
       let x = f (s ⊗ sa) (d ⊗ da) in
-      let y = B m (d ⊗ da) (s ⊗ sa) in
+      let y = g (d ⊗ da) (s ⊗ sa) in
       ap plain (unit-twice x) ∙ unit-same x y e
-
-  -- and one that is B
-  exact-by-convention : (k : Convention) (f : Float → Float → Float) (m : Mode) → f (blended k s sa) (blended k d da) ≡ B m (blended k d da) (blended k s sa) → channelOf k f s d sa da ≡ storedBy spread k m s sa d da
-  exact-by-convention Premult f m e = ap (λ (v : Float). unitOf (coBy spread (unitOf v) s sa d da)) e
-  exact-by-convention Divided f m e = ap unitOf (over-union-is (coBy spread (f s d) s sa d da) (union sa da) ∙ ap (λ (v : Float). overUnion (coBy spread v s sa d da) (union sa da)) e)
-  exact-by-convention OnPremult f m e = ap (λ (v : Float). unitOf (unitOf v ⊕ uncovered s sa d da)) e
-  exact-by-convention PremultOnly f m e = unit-twice (f (s ⊗ sa) (d ⊗ da)) ∙ ap unitOf e
 
 -- ---- the pixel
 module _ (p : Params) (s d : Rgba) where
@@ -109,6 +104,19 @@ module _ (p : Params) (s d : Rgba) where
   union-alpha softLight = refl
   union-alpha difference = refl
   union-alpha exclusion = refl
+
+  pub alpha-by : (m : Mode) → pixelOf (blendOp m) p s d .a ≡ alphaBy (steps m) (s .a) (d .a)
+  alpha-by multiply = refl
+  alpha-by screen = refl
+  alpha-by overlay = refl
+  alpha-by darken = refl
+  alpha-by lighten = refl
+  alpha-by colorDodge = refl
+  alpha-by colorBurn = refl
+  alpha-by hardLight = refl
+  alpha-by softLight = refl
+  alpha-by difference = refl
+  alpha-by exclusion = refl
 
   painted : (c : Colour) (m : Mode) → at c (pixelOf (blendOp m) p s d) ≡ channelOf (convention (blendOp m)) (blendOf (blendOp m) p) (at c s) (at c d) (s .a) (d .a)
   painted c m = line m ∙ on-colours c (λ x y. channelOf (convention (blendOp m)) (blendOf (blendOp m) p) x y (s .a) (d .a)) s d (overAlphaOf (s .a) (d .a))
@@ -126,12 +134,22 @@ module _ (p : Params) (s d : Rgba) where
       line difference = refl
       line exclusion = refl
 
+  -- W3C's formula with the mode's steps, for all values
+  pub colour-by : (m : Mode) → Held s → Held d → (c : Colour) → Same (at c (pixelOf (blendOp m) p s d)) (colourBy (steps m) m (at c s) (s .a) (at c d) (d .a))
+  colour-by m hs hd c =
+      let k = convention (blendOp m) in
+      ap plain (painted c m)
+      ∙ by-convention (at c s) (s .a) (at c d) (d .a) k (blendOf (blendOp m) p) (blendBy (steps m) m)
+      (blend-by m p (blended k (at c s) (s .a)) (blended k (at c d) (d .a)) (blended-fits k (at c s) (s .a) (held-at c s hs)) (blended-fits k (at c d) (d .a) (held-at c d hd)))
+      ∙ ap plain (by-steps (at c s) (s .a) (at c d) (d .a) m (blendBy (steps m) m))
+
+  -- with the blend function as printed, where that makes no difference
   pub stored-is : (m : Mode) → Held s → Held d → (c : Colour) → StoredOutside m (at c s) (s .a) (at c d) (d .a)
       → Same (at c (pixelOf (blendOp m) p s d)) (storedBy spread (convention (blendOp m)) m (at c s) (s .a) (at c d) (d .a))
   stored-is m hs hd c (inl x) =
       let k = convention (blendOp m) in
       ap plain (painted c m)
-      ∙ by-convention (at c s) (s .a) (at c d) (d .a) k (blendOf (blendOp m) p) m
+      ∙ by-convention (at c s) (s .a) (at c d) (d .a) k (blendOf (blendOp m) p) (B m)
       (blend-is m p (blended k (at c s) (s .a)) (blended k (at c d) (d .a)) (blended-fits k (at c s) (s .a) (held-at c s hs)) (blended-fits k (at c d) (d .a) (held-at c d hd)) x)
   stored-is m hs hd c (inr u) = ap plain (painted c m) ∙ by m u
     where
@@ -155,7 +173,6 @@ module _ (p : Params) (s d : Rgba) where
       by difference u = absurd u
       by exclusion u = absurd u
 
-  pub stored-exact : (m : Mode) → T (alike m) → (c : Colour) → at c (pixelOf (blendOp m) p s d) ≡ storedBy spread (convention (blendOp m)) m (at c s) (s .a) (at c d) (d .a)
-  stored-exact m w c =
-      let k = convention (blendOp m) in
-      painted c m ∙ exact-by-convention (at c s) (s .a) (at c d) (d .a) k (blendOf (blendOp m) p) m (blend-exact m w p (blended k (at c s) (s .a)) (blended k (at c d) (d .a)))
+  pub colour-with : (m : Mode) → Held s → Held d → (c : Colour) → StoredOutside m (at c s) (s .a) (at c d) (d .a)
+      → Same (at c (pixelOf (blendOp m) p s d)) (colourWith (steps m) (B m) (at c s) (s .a) (at c d) (d .a))
+  colour-with m hs hd c x = stored-is m hs hd c x ∙ ap plain (by-steps (at c s) (s .a) (at c d) (d .a) m (B m))

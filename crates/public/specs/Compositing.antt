@@ -1,11 +1,12 @@
 -- W3C, "Compositing and Blending Level 1": the separable blend modes and source-over compositing. Written from the recommendation, with its names.
--- Each operation is rounded once to binary32, and grouped as it is printed, from left to right. Definitions only.
+-- Each operation is rounded once to binary32, and grouped as it is printed, from left to right; Screen, which is printed in two forms, is taken in the
+-- second one, Cb + Cs − (Cb × Cs). Definitions only.
 -- Colours are straight: Cs and αs are the source's, Cb and αb the backdrop's, which is the destination here.
 use mathlib.Core.Bool.{cond}
 use lib.Ieee.{Float, le, eq}
 use Rattle.float_steps.specs.Notation.{_⊕_, _⊖_, _⊗_, _⊘_, f0, f1, f2, half}
 use Rattle.float_steps.specs.Literals.{f4, f12, f16, quarter}
-use Rattle.float_steps.specs.Order.{smallerOf, largerOf}
+use Rattle.float_steps.specs.Order.{smallerOf, largerOf, unitOf}
 use Rattle.float_steps.specs.Root.{sqrtOf}
 use Rattle.float_steps.specs.Sign.{absOf}
 
@@ -48,12 +49,9 @@ B softLight Cb Cs = softLightB Cb Cs
 B difference Cb Cs = absOf (Cb ⊖ Cs)
 B exclusion Cb Cs = Cb ⊕ Cs ⊖ f2 ⊗ Cb ⊗ Cs
 
--- ---- the result, premultiplied, of a blended colour v = B(Cb, Cs): Cs' = (1 − αb) × Cs + αb × v, and co = αs × Cs' + (1 − αs) × αb × Cb
-abbrev pub coWith : Float → Float → Float → Float → Float → Float
-coWith v Cs αs Cb αb = αs ⊗ ((f1 ⊖ αb) ⊗ Cs ⊕ αb ⊗ v) ⊕ (f1 ⊖ αs) ⊗ αb ⊗ Cb
-
+-- ---- the result, premultiplied: Cs' = (1 − αb) × Cs + αb × B(Cb, Cs), clamped to the range of colours as the text says, and co = αs × Cs' + (1 − αs) × αb × Cb
 abbrev pub co : Mode → Float → Float → Float → Float → Float
-co m Cs αs Cb αb = coWith (B m Cb Cs) Cs αs Cb αb
+co m Cs αs Cb αb = αs ⊗ unitOf ((f1 ⊖ αb) ⊗ Cs ⊕ αb ⊗ B m Cb Cs) ⊕ (f1 ⊖ αs) ⊗ αb ⊗ Cb
 
 abbrev pub αo : Float → Float → Float
 αo αs αb = αs ⊕ αb ⊗ (f1 ⊖ αs)

@@ -1,5 +1,6 @@
--- Where the compositor departs from Porter and Duff: the form in which a result is stored (document 01), the steps that are taken otherwise, and the inputs at which
--- that shows. docs/DIFFERENCES.md lists them, and Rows.antt has an input for each. Definitions only.
+-- Porter and Duff's colour and coverage in the form in which the compositor's pixel has them (document 01's, and Plus's cut), with the steps `coverageFirst` and
+-- `keptAlpha` of FractionSteps.antt; and the inputs at which its other steps show: a term that is left out, a pixel that is cleared, a coverage of at most 0.
+-- Definitions only.
 use mathlib.Core.Path.{_≡_}
 use mathlib.Core.Bool.{false, _||_}
 use lib.Dec.{T}
@@ -89,7 +90,7 @@ groupB AplusB = printed
 abbrev pub colourBy : Operator → Float → Float → Float → Float → Float
 colourBy o CA αA CB αB = part (groupA o) CA αA (fraction (FA o) αB) ⊕ part (groupB o) CB αB (fraction (FB o) αA)
 
--- the paper's coverage, where Atop and DstAtop have the one picture's coverage for αA × αB + αB × (1 − αA), which is it but for rounding
+-- the paper's coverage, where Atop and DstAtop have the one picture's coverage for αA × αB + αB × (1 − αA), which is it in exact arithmetic
 abbrev pub coverageBy : Operator → Float → Float → Float
 coverageBy clear αA αB = coverage clear αA αB
 coverageBy A αA αB = coverage A αA αB
@@ -110,7 +111,7 @@ coverageBy AplusB αA αB = coverage AplusB αA αB
 abbrev pub LeftOut : Float → Float → Type 0
 LeftOut x y = T (finite x || isNan y)
 
--- DstIn and DstOut clear a pixel whose alpha a is not above 0. That is no difference where colour times alpha, y, is a zero.
+-- DstIn and DstOut clear a pixel whose alpha a is at most 0. That is no difference where colour times alpha, y, is a zero.
 abbrev pub Cleared : Float → Float → Type 0
 Cleared a y = T (le a f0) → Zero y
 

@@ -1,6 +1,7 @@
 -- Where both documents' numbers lie. Definitions only.
 use mathlib.Core.Path.{_≡_}
-use mathlib.Core.Bool.{Bool, false, _||_}
+use mathlib.Core.Logic.{_⊎_}
+use mathlib.Core.Bool.{Bool, true, false, _||_}
 use lib.Dec.{T}
 use lib.Ieee.{Float, binary32, fits, lt, eq, isNan}
 use Rattle.float_steps.specs.Notation.{f0, f1}
@@ -25,3 +26,7 @@ opaque sa da = eq sa f1 || eq da f1
 
 abbrev pub absent : Float → Float → Bool
 absent sa da = eq sa f0 || eq da f0
+
+-- just one of them is 0
+abbrev pub OneAbsent : Float → Float → Type 0
+OneAbsent sa da = ((eq sa f0 ≡ true) × (eq da f0 ≡ false)) ⊎ ((eq da f0 ≡ true) × (eq sa f0 ≡ false))
