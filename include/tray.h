@@ -4,8 +4,9 @@
  *
  * Words. A picture, the source samples and the arguments are lists of words: the bits of binary32 floats. A host passes
  * its float buffer's pointer as it is (as uint32_t *). Pixels go row by row, samples of a pixel side by side: 1 channel
- * is gray, 3 are red, green and blue, 4 have alpha too. Colours are straight, not multiplied by alpha. A sample that a
- * call computes and that is NaN is stored as 7FC00000; one that it keeps or copies keeps all its bits.
+ * is gray, 3 are red, green and blue, 4 have alpha too. Colours are read as straight, not multiplied by alpha; some
+ * operators store theirs multiplied (docs/DIFFERENCES.md, "What a user sees"). A sample that a call computes and that is
+ * NaN is stored as 7FC00000; one that it keeps or copies keeps all its bits.
  *
  * What is lent. A list is lent as a pointer and its count of elements, for the time of the call; no pointer is kept.
  * Pointers to const are only read. The others are written only as each function says, and not at all by a call that is
