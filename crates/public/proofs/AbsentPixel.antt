@@ -16,7 +16,7 @@ use Rattle.pixels.specs.declared.Params.{Params}
 use Rattle.pixels.specs.Pixel.{pixelOf}
 use Rattle.public.specs.Compositing.{Mode, multiply, screen, overlay, darken, lighten, colorDodge, colorBurn, hardLight, softLight, difference, exclusion, B, co, αo}
 use Rattle.public.specs.Operators.{Colour, at, blendOp}
-use Rattle.public.specs.BlendSteps.{divided, among, steps}
+use Rattle.public.specs.BlendSteps.{blackFirst, divided, among, steps}
 use Rattle.public.specs.BlendDifferences.{burns}
 use Rattle.public.specs.Range.{InUnits, opaque, absent, OneAbsent}
 use Rattle.public.proofs.Conventions.{printed, coBy, storedBy}
@@ -73,22 +73,15 @@ module _ (p : Params) (s d : Rgba) (ps : InUnits s) (pd : InUnits d) (c : Colour
   ]
 
   not-burnt : T (absent (s .a) (d .a)) → (m : Mode) → burns m (at c s) (s .a) (at c d) (d .a) ≡ false
-  not-burnt o multiply = refl
-  not-burnt o screen = refl
-  not-burnt o overlay = refl
-  not-burnt o darken = refl
-  not-burnt o lighten = refl
-  not-burnt o colorDodge = refl
-  not-burnt o colorBurn = ap (λ (b : Bool). eq S f0 && (eq D f1 && not b)) (eq-zeros (s .a ⊗ d .a) f0 (no-overlap o) zero-is) ∙ none (eq S f0) (eq D f1)
+  not-burnt o m =
+      let k = among blackFirst (steps m) in
+      ap (λ (b : Bool). k && (eq S f0 && (eq D f1 && not b))) (eq-zeros (s .a ⊗ d .a) f0 (no-overlap o) zero-is) ∙ none k (eq S f0) (eq D f1)
     where
-      none : (u v : Bool) → u && (v && false) ≡ false
-      none true true = refl
-      none true false = refl
-      none false v = refl
-  not-burnt o hardLight = refl
-  not-burnt o softLight = refl
-  not-burnt o difference = refl
-  not-burnt o exclusion = refl
+      none : (u v w : Bool) → u && (v && (w && false)) ≡ false
+      none true true true = refl
+      none true true false = refl
+      none true false w = refl
+      none false v w = refl
 
   -- what a mode that divides stores there, mixed as printed
   at-edge : T (absent (s .a) (d .a)) → (m : Mode) → Same (at c (pixelOf (blendOp m) p s d)) (storedBy printed (convention (blendOp m)) m (at c s) (s .a) (at c d) (d .a))

@@ -1,7 +1,7 @@
 -- `BlendOutside` excludes no input at which the two blend functions are equal: where they are, it holds. Exclusion's is left out: that two differences are equal only where their
 -- products are is not proved. Assumes nothing.
 use mathlib.Core.Path.{_≡_, refl, sym, ap, _∙_, subst}
-use mathlib.Core.Bool.{Bool, true, false, cond, _&&_, _||_, true≢false}
+use mathlib.Core.Bool.{Bool, true, false, cond, not, _&&_, _||_, true≢false}
 use lib.Dec.{T}
 use lib.Ieee.{Float, nan, inf, fin, binary32, ofBits, add, sub, mul, fits, lt, le, eq, isNan}
 use Rattle.float_steps.specs.Notation.{_⊖_, _⊘_, f0, f1, half}
@@ -13,6 +13,7 @@ use Rattle.pixels.specs.Pixel.{blendOf}
 use Rattle.pixels.specs.declared.Params.{Params}
 use Rattle.public.specs.Compositing.{Mode, multiply, screen, overlay, darken, lighten, colorDodge, colorBurn, hardLight, softLight, difference, exclusion, B, hardLightB, colorDodgeB, colorBurnB}
 use Rattle.public.specs.Operators.{blendOp}
+use Rattle.public.specs.BlendSteps.{sourceDoubled, among, steps}
 use Rattle.public.specs.BlendDifferences.{infinite, DodgeOutside, burnt, BurnOutside, BlendOutside}
 use Rattle.public.proofs.Constants.{zero-is, is-zero, is-one, is-half}
 use Rattle.public.proofs.InRange.{zero-in, one-in}
@@ -146,17 +147,7 @@ hard-needed s (inf t) h e = go (eq s half) refl
 
 -- ---- every mode but Exclusion
 abbrev pub undoubled : Mode → Bool
-undoubled multiply = true
-undoubled screen = true
-undoubled overlay = true
-undoubled darken = true
-undoubled lighten = true
-undoubled colorDodge = true
-undoubled colorBurn = true
-undoubled hardLight = true
-undoubled softLight = true
-undoubled difference = true
-undoubled exclusion = false
+undoubled m = not (among sourceDoubled (steps m))
 
 pub blend-needed : (m : Mode) → T (undoubled m) → (a : Params) (s d : Float) → T (fits binary32 s) → T (fits binary32 d) → Same (blendOf (blendOp m) a s d) (B m d s) → BlendOutside m s d
 blend-needed multiply w a s d p q e = tt

@@ -13,6 +13,7 @@ use Rattle.ieee_laws.proofs.Order.{lt-same}
 use Rattle.ieee_laws.proofs.Bound.{add-unsigned}
 use Rattle.public.specs.PorterDuff.{Operator, clear, A, B, AoverB, BoverA, AinB, BinA, AoutB, BoutA, AatopB, BatopA, AxorB, AplusB}
 use Rattle.public.specs.Compositing.{Mode, multiply, screen, overlay, darken, lighten, colorDodge, colorBurn, hardLight, softLight, difference, exclusion}
+use Rattle.public.specs.FractionSteps.{overCoverage, among, steps}
 use Rattle.public.specs.FractionDifferences.{Cleared, ColourOutside, AlphaOutside}
 use Rattle.public.specs.BlendDifferences.{infinite, burns}
 use Rattle.public.proofs.Conventions.{StoredOutside}
@@ -31,19 +32,7 @@ sum-not-below {x} {y} p q =
 
 -- the operators that do not divide
 abbrev pub undivided : Operator → Bool
-undivided clear = true
-undivided A = true
-undivided B = true
-undivided AoverB = false
-undivided BoverA = false
-undivided AinB = true
-undivided BinA = true
-undivided AoutB = true
-undivided BoutA = true
-undivided AatopB = true
-undivided BatopA = true
-undivided AxorB = true
-undivided AplusB = true
+undivided o = not (among overCoverage (steps o))
 
 module _ {s sa d da : Float} (ps : InUnit s) (psa : InUnit sa) (pd : InUnit d) (pda : InUnit da) where
   source : T (finite (s ⊗ sa))

@@ -8,7 +8,6 @@ use lib.IntN.{pos}
 use lib.Dec.{T}
 use lib.Ieee.{Float, binary32, eq}
 use Rattle.float_steps.specs.Notation.{_⊖_, _⊗_, f0, f1}
-use Rattle.float_steps.specs.Order.{smallerOf}
 use Rattle.ieee_laws.specs.Same.{plain, Same, Zero}
 use Rattle.ieee_laws.proofs.Commute.{add-commutes}
 use Rattle.ieee_laws.proofs.Zero.{of-plain, add-same}
@@ -17,7 +16,8 @@ use Rattle.pixels.specs.declared.Params.{Params}
 use Rattle.pixels.specs.Pixel.{pixelOf}
 use Rattle.public.specs.PorterDuff.{Fraction, none, whole, inside, outside, fraction, FA, FB, colour, coverage}
 use Rattle.public.specs.PorterDuff.{Operator, clear, A, B, AoverB, BoverA, AinB, BinA, AoutB, BoutA, AatopB, BatopA, AxorB, AplusB}
-use Rattle.public.specs.FractionDifferences.{Form, exact, premultiplied, straight, divided, capped, form, IsColour, IsAlpha}
+use Rattle.public.specs.FractionSteps.{cutBy, steps}
+use Rattle.public.specs.FractionDifferences.{form, IsColour, IsAlpha}
 use Rattle.public.specs.FractionDifferences.{Grouping, printed, coverageFirst, part, groupA, groupB, colourBy, coverageBy}
 use Rattle.public.specs.Operators.{Colour, at, porterDuffOp}
 use Rattle.public.specs.Range.{InUnit, InUnits, opaque, absent}
@@ -28,14 +28,6 @@ use Rattle.public.proofs.AtEdges.{or-split}
 use Rattle.public.proofs.FractionEdges.{full-coverage, full-fraction, no-coverage, no-fraction, atop-full, atop-none, atop-bare}
 use Rattle.public.proofs.Complement.{atop-opaque}
 use Rattle.public.proofs.Fractions.{alpha-is, colour-is}
-
--- Plus is cut at 1
-abbrev pub cut : Form → Float → Float
-cut exact q = q
-cut premultiplied q = q
-cut straight q = q
-cut divided q = q
-cut capped q = smallerOf q f1
 
 -- ---- 1, or a zero
 abbrev End : Float → Type 0
@@ -133,7 +125,7 @@ module _ (p : Params) (s d : Rgba) (ps : InUnits s) (pd : InUnits d) (c : Colour
   fraction-alpha-in-range o = alpha-is p s d (held-of s ps) (held-of d pd) o (alpha-outside (unit-at c s ps) (ps .a) (unit-at c d pd) (pd .a) o)
 
   pub fraction-alpha-at-edge : (o : Operator) → T (opaque (s .a) (d .a) || absent (s .a) (d .a))
-      → Same (pixelOf (porterDuffOp o) p s d .a) (cut (form o) (coverage o (s .a) (d .a)))
+      → Same (pixelOf (porterDuffOp o) p s d .a) (cutBy (steps o) (coverage o (s .a) (d .a)))
   fraction-alpha-at-edge clear e = fraction-alpha-in-range clear
   fraction-alpha-at-edge A e = fraction-alpha-in-range A
   fraction-alpha-at-edge B e = fraction-alpha-in-range B

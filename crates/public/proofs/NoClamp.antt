@@ -2,7 +2,7 @@
 -- the four steps of its mixing alone, and where an alpha is 0 or 1 it is W3C's co as printed. Assumes nothing.
 use mathlib.Core.Path.{_≡_, ap, _∙_}
 use mathlib.Core.Logic.{inl}
-use mathlib.Core.Bool.{Bool, true, false, _||_}
+use mathlib.Core.Bool.{Bool, not, _&&_, _||_}
 use lib.Dec.{T}
 use lib.Ieee.{Float}
 use Rattle.float_steps.specs.Notation.{_⊗_}
@@ -14,7 +14,7 @@ use Rattle.pixels.specs.declared.Params.{Params}
 use Rattle.pixels.specs.Pixel.{pixelOf}
 use Rattle.public.specs.Compositing.{Mode, multiply, screen, overlay, darken, lighten, colorDodge, colorBurn, hardLight, softLight, difference, exclusion, B, co}
 use Rattle.public.specs.Operators.{Colour, at, blendOp}
-use Rattle.public.specs.BlendSteps.{regrouped, mixedBy}
+use Rattle.public.specs.BlendSteps.{blendGrouped, divided, among, steps, regrouped, mixedBy}
 use Rattle.public.proofs.Conventions.{spread, coBy, spread-is}
 use Rattle.public.specs.Range.{InUnit, InUnits, opaque, absent}
 use Rattle.public.proofs.InRange.{unit-at, held-of, product-in, doubles-in}
@@ -26,17 +26,7 @@ use Rattle.public.proofs.Stored.{stored-is}
 
 -- the modes that store co as it is
 abbrev pub mixes : Mode → Bool
-mixes multiply = true
-mixes screen = true
-mixes overlay = false
-mixes darken = false
-mixes lighten = true
-mixes colorDodge = false
-mixes colorBurn = false
-mixes hardLight = false
-mixes softLight = false
-mixes difference = true
-mixes exclusion = false
+mixes m = among blendGrouped (steps m) && not (among divided (steps m))
 
 -- a clamp of what lies within 0 and 1
 kept : (v : Float) → InUnit v → unitOf v ≡ v

@@ -92,18 +92,22 @@ module _ (s sa d da : Float) where
 
 -- ---- the pixel
 module _ (p : Params) (s d : Rgba) where
+  -- every mode is a mathematical operator
+  line : (m : Mode) → pixelOf (blendOp m) p s d ≡ mathematicalOf (blendOp m) p s d
+  line multiply = refl
+  line screen = refl
+  line overlay = refl
+  line darken = refl
+  line lighten = refl
+  line colorDodge = refl
+  line colorBurn = refl
+  line hardLight = refl
+  line softLight = refl
+  line difference = refl
+  line exclusion = refl
+
   pub union-alpha : (m : Mode) → pixelOf (blendOp m) p s d .a ≡ union (s .a) (d .a)
-  union-alpha multiply = refl
-  union-alpha screen = refl
-  union-alpha overlay = refl
-  union-alpha darken = refl
-  union-alpha lighten = refl
-  union-alpha colorDodge = refl
-  union-alpha colorBurn = refl
-  union-alpha hardLight = refl
-  union-alpha softLight = refl
-  union-alpha difference = refl
-  union-alpha exclusion = refl
+  union-alpha m = ap (λ (o : Rgba). o .a) (line m)
 
   pub alpha-by : (m : Mode) → pixelOf (blendOp m) p s d .a ≡ alphaBy (steps m) (s .a) (d .a)
   alpha-by multiply = refl
@@ -118,21 +122,9 @@ module _ (p : Params) (s d : Rgba) where
   alpha-by difference = refl
   alpha-by exclusion = refl
 
-  painted : (c : Colour) (m : Mode) → at c (pixelOf (blendOp m) p s d) ≡ channelOf (convention (blendOp m)) (blendOf (blendOp m) p) (at c s) (at c d) (s .a) (d .a)
-  painted c m = line m ∙ on-colours c (λ x y. channelOf (convention (blendOp m)) (blendOf (blendOp m) p) x y (s .a) (d .a)) s d (overAlphaOf (s .a) (d .a))
-    where
-      line : (m : Mode) → at c (pixelOf (blendOp m) p s d) ≡ at c (mathematicalOf (blendOp m) p s d)
-      line multiply = refl
-      line screen = refl
-      line overlay = refl
-      line darken = refl
-      line lighten = refl
-      line colorDodge = refl
-      line colorBurn = refl
-      line hardLight = refl
-      line softLight = refl
-      line difference = refl
-      line exclusion = refl
+  painted : (c : Colour) (m : Mode)
+      → at c (pixelOf (blendOp m) p s d) ≡ channelOf (convention (blendOp m)) (blendOf (blendOp m) p) (at c s) (at c d) (s .a) (d .a)
+  painted c m = ap (at c) (line m) ∙ on-colours c (λ x y. channelOf (convention (blendOp m)) (blendOf (blendOp m) p) x y (s .a) (d .a)) s d (overAlphaOf (s .a) (d .a))
 
   -- W3C's formula with the mode's steps, for all values
   pub colour-by : (m : Mode) → Held s → Held d → (c : Colour) → Same (at c (pixelOf (blendOp m) p s d)) (colourBy (steps m) m (at c s) (s .a) (at c d) (d .a))

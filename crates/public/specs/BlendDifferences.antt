@@ -6,6 +6,7 @@ use lib.Ieee.{Float, nan, inf, fin, lt, le, eq}
 use Rattle.float_steps.specs.Notation.{_⊖_, _⊗_, _⊘_, f0, f1, f2, half}
 use Rattle.float_steps.specs.Order.{smallerOf}
 use Rattle.ieee_laws.specs.Same.{Same, Zero}
+use Rattle.public.specs.BlendSteps.{blackFirst, among, steps}
 use Rattle.public.specs.Compositing.{Mode, multiply, screen, overlay, darken, lighten, colorDodge, colorBurn, hardLight, softLight, difference, exclusion}
 
 abbrev pub infinite : Float → Bool
@@ -48,14 +49,4 @@ BlendOutside exclusion Cs Cb = Same (f2 ⊗ Cs ⊗ Cb) (f2 ⊗ Cb ⊗ Cs)
 
 -- On numbers from 0 to 1 all of these hold but one: ColorBurn of black on white, which can show only where the product of the alphas, as rounded, is not 0
 abbrev pub burns : Mode → Float → Float → Float → Float → Bool
-burns multiply Cs αs Cb αb = false
-burns screen Cs αs Cb αb = false
-burns overlay Cs αs Cb αb = false
-burns darken Cs αs Cb αb = false
-burns lighten Cs αs Cb αb = false
-burns colorDodge Cs αs Cb αb = false
-burns colorBurn Cs αs Cb αb = eq Cs f0 && (eq Cb f1 && not (eq (αs ⊗ αb) f0))
-burns hardLight Cs αs Cb αb = false
-burns softLight Cs αs Cb αb = false
-burns difference Cs αs Cb αb = false
-burns exclusion Cs αs Cb αb = false
+burns m Cs αs Cb αb = among blackFirst (steps m) && (eq Cs f0 && (eq Cb f1 && not (eq (αs ⊗ αb) f0)))
