@@ -3,7 +3,7 @@
 use Prim.Native.Nat.{ℕ}
 use Prim.Native.String.{String}
 use mathlib.Core.Bool.{Bool, true, false, cond, _&&_}
-use mathlib.Core.List.{List, [], _∷_}
+use mathlib.Core.List.{List, [], _∷_, _++_, map}
 use lib.Dec.{T, eqb}
 use lib.ListN.{getD}
 use lib.IntN.{ℤ, pos, negsuc, _-ℤ_}
@@ -30,9 +30,12 @@ use Rattle.pixels.specs.Pixel.{overBy, unused, pixelOf}
 use Rattle.layers.specs.Cells.{natOf, outsideZ, badChannels, badShape}
 use Rattle.layers.specs.Faults.{badPlacing, badSource, layerFault}
 use Rattle.layers.specs.Inputs.{Inputs, inputsOf, badStack, badDst, rowsFault, jobFault}
-use Rattle.job.specs.Memory.{Mem, memOf, positionOf}
+use Rattle.job.specs.declared.Answer.{Answer}
+use Rattle.job.specs.Memory.{Mem, memOf, positionOf, stored}
 use Rattle.job.specs.Job.{memoryFault, callFault}
 use Rattle.job.specs.Call.{writeAt, runOf, acceptedOf, callOf}
+use Rattle.job.specs.Model.{blocks, pictureWrites, writeSequence, Call, allowed, Seen, modelOf}
+use Rattle.job.specs.Demand.{programOf, history}
 use Rattle.tray.specs.Answers.{NameAnswer, nameOf}
 
 -- a case: what a definition is applied to, and what it must give
@@ -49,7 +52,8 @@ pub data Case : Type 0 where
   -- the operator that a name spells, or the number under which it is refused
   name : String → ℕ → Case
   unknown : String → ℕ → Case
-  -- calls of a job with so many stores: of each the stores made, the mark after it, and 1 where it finished
+  -- calls of a job with so many stores: of each the stores made, the mark after it, and 1 where it finished, by the program's definition and by the
+  -- reference model (document 01: the account)
   job : List ℕ → List ℕ → Case
 
 -- the pixel of four words
@@ -87,10 +91,16 @@ twoByOne =
 abbrev pub begun : Mem
 begun = memOf (9 ∷ 9 ∷ 9 ∷ 9 ∷ 9 ∷ 9 ∷ 9 ∷ 9 ∷ []) (7 ∷ 7 ∷ 7 ∷ 7 ∷ 7 ∷ 7 ∷ 7 ∷ 7 ∷ []) (0 ∷ [])
 
-unfoldable pub answers : Mem → List ℕ → List ℕ
-answers m [] = []
-answers m (n ∷ ns) =
-    let o = callOf twoByOne n m in o .answer .stores ∷ positionOf (o .mem) ∷ cond (o .answer .finished) 1 0 ∷ answers (o .mem) ns
+-- of each call, as a row has it
+abbrev pub numbers : List Seen → List ℕ
+numbers [] = []
+numbers (s ∷ ss) =
+    map (λ (a : Answer). a .stores) (s .told)
+    ++ positionOf (s .mem) ∷ map (λ (a : Answer). cond (a .finished) 1 0) (s .told)
+    ++ numbers ss
+
+abbrev pub calls : (Mem → Call → Seen) → List ℕ → List ℕ
+calls by allowances = numbers (history by begun (map allowed allowances))
 
 abbrev pub sameList : List ℕ → List ℕ → Bool
 sameList [] [] = true
@@ -106,7 +116,7 @@ holds (pixel op s d r) = sameWords (pixelOf op unused (pixelAt s) (pixelAt d)) r
 holds (centre dst src r) = sameInteger (placementOf Centre dst dst src src (pos 0) (pos 0) .x) r
 holds (tile offset width column r) = isAt (spotOf true width (pos column -ℤ pos offset)) r
 holds (name text r) = sameAnswer (nameAnswer text) NONE r
-holds (job allowances r) = sameList (answers begun allowances) r
+holds (job allowances r) = sameList (calls (programOf twoByOne) allowances) r && sameList (calls (modelOf twoByOne) allowances) r
 holds (unknown text r) = sameAnswer (nameAnswer text) r 70
 
 abbrev pub all : List Case → Bool
@@ -149,5 +159,5 @@ table =
     ∷ []
 
 pub trials : T (all table)
-unfolding wrapOf remEuclidOf sqrtOf byteOf smallerOf clampOf colorBurnOf overUnionOf overBy placementOf spotOf fromName entries isKept lower answers callOf acceptedOf callFault memoryFault jobFault badStack badDst rowsFault layerFault named badPlacing badSource badShape badChannels outsideZ natOf runOf writeAt ofBits toBits add sub mul div rem lt le eq isNan
+unfolding wrapOf remEuclidOf sqrtOf byteOf smallerOf clampOf colorBurnOf overUnionOf overBy placementOf spotOf fromName entries isKept lower history programOf modelOf writeSequence pictureWrites blocks stored callOf acceptedOf callFault memoryFault jobFault badStack badDst rowsFault layerFault named badPlacing badSource badShape badChannels outsideZ natOf runOf writeAt ofBits toBits add sub mul div rem lt le eq isNan
 trials = tt
