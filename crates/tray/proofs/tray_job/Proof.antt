@@ -1,8 +1,7 @@
 -- `tray::tray_job` meets its contract: it is the job's call, its answer taken apart. Assumes nothing.
-use mathlib.Core.Path.{ap}
+use mathlib.Core.Path.{refl}
 use borrow.Author.Needs.{needs}
 use mir.Facts.{toZ-ofZ}
-use Rattle.tray.specs.Answers.{jobOutcome}
 use Rattle.tray.proofs.tray_job.Statement.{statement}
 use Rattle.tray.proofs.tray_job.Tie as tie
 
@@ -10,8 +9,8 @@ returns : tie.Need-returns
 returns c =
     let r = c .before .before .before .before .before .before .before in
     let f = r .before .before .before .before .before .before .before .before .before .before .fits in
-    rw (c .flag .ensures)
-    (ap jobOutcome (rw (toZ-ofZ (f .width), toZ-ofZ (f .height), toZ-ofZ (f .channels), toZ-ofZ (f .layers)) at (r .run .ensures)))
+    let called = rw (toZ-ofZ (f .width), toZ-ofZ (f .height), toZ-ofZ (f .channels), toZ-ofZ (f .layers)) at (r .run .ensures) in
+    rw (c .flag .ensures, ← called) refl
 
 pub tray-job-spec : {M : Type 1} → statement M
 tray-job-spec =

@@ -1,6 +1,6 @@
 -- `compose::cell::composed` meets its contract. Assumes nothing.
-use mathlib.Core.Path.{_≡_, _∙_}
-use Rattle.float_steps.proofs.Choice.{yes, no}
+use mathlib.Core.Path.{_≡_, refl, _∙_}
+use Rattle.float_steps.proofs.Choice.{no}
 use Rattle.compose.proofs.Pixels.{reached, spot-held}
 use Rattle.compose.specs.Plans.{spotBy, composedBy}
 use borrow.Author.Needs.{needs}
@@ -19,7 +19,7 @@ source-pixel-requires c κs = (c .before .before .before .before .before .pre .0
 
 returns : tie.Need-returns
 unfolding composedBy
-returns c = rw (← spot (c .before .before .before .before .before .before), ← c .before .before .before .before .before .writing .ensures, c .written .ensures, c .before .result .ensures, c .before .before .values .ensures, c .before .before .before .source-pixel .ensures) (yes _ _ (c .before .before .before .before .if1 .taken))
+returns c = rw (← spot (c .before .before .before .before .before .before), ← c .before .before .before .before .before .writing .ensures, c .written .ensures, c .before .result .ensures, c .before .before .values .ensures, c .before .before .before .source-pixel .ensures, c .before .before .before .before .if1 .taken) refl
 
 returns-2 : tie.Need-returns-2
 unfolding composedBy

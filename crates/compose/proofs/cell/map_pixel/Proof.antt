@@ -1,4 +1,5 @@
 -- `compose::cell::map_pixel` meets its contract: a pixel's column and row lie within the sides. Assumes nothing.
+use mathlib.Core.Path.{refl}
 use native.Mathlib.Omega.{arith}
 use Rattle.compose.proofs.Pixels.{some-width, some-height, column-below, row-below}
 use Rattle.compose.proofs.cell.map_pixel.Statement.{statement}
@@ -22,7 +23,7 @@ bilinear-requires c κs =
     (b .picture .some, b .picture .most, some-width _ _ _ (b .inside), b .picture .width, some-height _ _ _ (b .inside), b .picture .height, b .picture .whole)
 
 returns : tie.Need-returns
-returns c = rw (c .bilinear .ensures, c .before .map-coordinate2 .ensures, c .before .before .map-coordinate .ensures)
+returns c = rw (c .bilinear .ensures, c .before .map-coordinate2 .ensures, c .before .before .map-coordinate .ensures) refl
 
 pub map-pixel-spec : {M : Type 1} → statement M
 map-pixel-spec =

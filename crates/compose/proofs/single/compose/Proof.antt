@@ -10,6 +10,7 @@ use Rattle.places.specs.Bounds.{slack}
 use Rattle.layers.specs.Cells.{natOf}
 use Rattle.layers.specs.Inputs.{Inputs, inputsOf, jobFault}
 use Rattle.layers.proofs.Accepted.{Accepted, accepted, destination}
+use Rattle.compose.specs.Single.{pictureOf}
 use Rattle.compose.proofs.Outcomes.{refused, unfit, composed}
 use Rattle.compose.proofs.Placed.{plane}
 use Rattle.compose.proofs.single.compose.Statement.{statement}
@@ -103,7 +104,8 @@ returns-3 c =
     let a = n .before .before .before in
     let e = sides n in
     let f : d .natural3 .result ≡ natOf (start a .args .channels) = rw (toZ-ofZ (start a .fits .channels)) at (d .natural3 .ensures) in
-    composed (inputs (start a)) _ _ (told a) (n .before .before .if1 .left) _ (rw (e .wide, e .high) at (d .before .if2 .left)) (k .whole .ensures ∙ rw (k .before .before .at .ensures, e .wide, e .high, f))
+    let picture : _ ≡ pictureOf (inputs (start a)) = k .whole .ensures ∙ rw (k .before .before .at .ensures, e .wide, e .high, f) in
+    composed (inputs (start a)) (start a .args .out .now) _ (told a) (n .before .before .if1 .left) _ (rw (e .wide, e .high) at (d .before .if2 .left)) picture
 
 pub compose-spec : {M : Type 1} → statement M
 compose-spec =
