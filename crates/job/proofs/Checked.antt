@@ -1,8 +1,8 @@
 -- What a call without a fault has of its inputs and its memory, and that this is what its writes ask. Assumes nothing.
-use mathlib.Core.Path.{_≡_, refl, sym, ap, _∙_}
+use mathlib.Core.Path.{_≡_, refl, sym, _∙_}
 use mathlib.Core.Bool.{Bool, true, false, cond}
-use Prim.Native.Nat.{ℕ, zero, suc, _+_, _-_, _*_, _/_, _<_, _≤_, min}
-use native.Mathlib.Nat.{mul-le-mul, mul-zero, not-suc-le-zero, min-le-right, div-lt-iff-lt-mul}
+use Prim.Native.Nat.{ℕ, zero, suc, _+_, _-_, _*_, _/_, _<_, _≤_}
+use native.Mathlib.Nat.{mul-le-mul, mul-zero, not-suc-le-zero, div-lt-iff-lt-mul}
 use native.Mathlib.Omega.{arith}
 use lib.Dec.{eqb, ltb}
 use lib.ListN.{length}
@@ -11,12 +11,13 @@ use Rattle.places.specs.Bounds.{slack}
 use Rattle.layers.specs.declared.Verdict.{Verdict}
 use Rattle.layers.specs.Cells.{natOf}
 use Rattle.layers.specs.Inputs.{Inputs, verdict, jobFault}
-use Rattle.layers.proofs.Accepted.{accepted, row-held, words-held, destination}
+use Rattle.layers.proofs.Accepted.{accepted}
+use Rattle.job.specs.declared.Extent.{Extent}
 use Rattle.job.specs.Memory.{Mem, positionOf}
 use Rattle.job.specs.Job.{pixelCount, layerCount, endOf, memoryFault, callFault, acceptance, refusal}
-use Rattle.job.specs.Call.{setting, settingOf, runOf, madeOf, Outcome, acceptedOf, callOf}
-use Rattle.job.specs.Steps.{Decodable, Sized, Due}
-use Rattle.job.proofs.Uses.{ahead-of}
+use Rattle.job.specs.Call.{runOf, madeOf, acceptedOf, callOf}
+use Rattle.job.specs.Uses.{inputsBy}
+use Rattle.job.specs.Steps.{Sized, Midway}
 
 -- ---- the faults
 
@@ -29,17 +30,9 @@ pub memory-fault : (i : Inputs) (m : Mem) (v : Verdict) (f : ℕ) → v ≡ jobF
 unfolding callFault
 memory-fault i m v f e h g = rw (← e, eq-eqb (v .number) 0 h, g)
 
--- no fault
 none-by : (t : Bool) (v : Verdict) (f : ℕ) → eqb (v .number) 0 ≡ t → cond t (verdict f 0) v .number ≡ 0 → (v .number ≡ 0) × (f ≡ 0)
 none-by true v f e h = (eqb-true (v .number) 0 e, h)
 none-by false v f e h = let x : true ≡ false = sym (eq-eqb (v .number) 0 h) ∙ e in let y : _≡_ {A = ℕ} 0 1 = cc in absurd (omega arith)
-
--- memory of a job of so many pixels a picture, with so many positions
-pub record Held (pixels end : ℕ) (m : Mem) : Type 0 where
-  pub work0-length : length (m .work0) ≡ 4 * pixels
-  pub work1-length : length (m .work1) ≡ 4 * pixels
-  pub checkpoint-length : length (m .checkpoint) ≡ 1
-  pub within : positionOf m ≤ end
 
 cond-zero : (b : Bool) (x n : ℕ) → cond b x (suc n) ≡ 0 → (b ≡ true) × (x ≡ 0)
 cond-zero true x n e = (refl, e)
@@ -49,29 +42,30 @@ not-past : (b : Bool) (n : ℕ) → cond b (suc n) 0 ≡ 0 → b ≡ false
 not-past true n e = absurd (omega arith)
 not-past false n e = refl
 
-held : (pixels end : ℕ) (m : Mem) → memoryFault pixels end m ≡ 0 → Held pixels end m
+-- memory without a fault: lists of the job's lengths, and a position that is not past the end
+memory-none : (i : Inputs) (m : Mem) → memoryFault (pixelCount i) (endOf i) m ≡ 0 → Sized i m × (positionOf m ≤ endOf i)
 unfolding memoryFault
-held pixels end m e =
-    let a = cond-zero (eqb (length (m .work0)) (4 * pixels)) _ 8 e in
-    let b = cond-zero (eqb (length (m .work1)) (4 * pixels)) _ 8 (a .1) in
-    let d = cond-zero (eqb (length (m .checkpoint)) 1) _ 9 (b .1) in
-    record {
-      work0-length = eqb-true _ _ (a .0);
-      work1-length = eqb-true _ _ (b .0);
-      checkpoint-length = eqb-true _ _ (d .0);
-      within = ltb-false end (positionOf m) (not-past (ltb end (positionOf m)) 9 (d .1));
-    }
-
-pub held-none : (pixels end : ℕ) (m : Mem) → Held pixels end m → memoryFault pixels end m ≡ 0
-unfolding memoryFault
-held-none pixels end m h =
-    simp (eq-eqb _ _ (h .work0-length), eq-eqb _ _ (h .work1-length), eq-eqb _ _ (h .checkpoint-length), le-ltb end (positionOf m) (h .within))
+memory-none i m e =
+    let a = cond-zero (eqb (length (m .work0)) (4 * pixelCount i)) _ 8 e in
+    let b = cond-zero (eqb (length (m .work1)) (4 * pixelCount i)) _ 8 (a .1) in
+    let d = cond-zero (eqb (length (m .checkpoint)) 1) _ 9 (b .1) in (
+      record { works = record { length0 = eqb-true _ _ (a .0); length1 = eqb-true _ _ (b .0) }; checkpoint = eqb-true _ _ (d .0) },
+      ltb-false (endOf i) (positionOf m) (not-past (ltb (endOf i) (positionOf m)) 9 (d .1)),
+    )
 
 -- ---- bounds of accepted inputs
 
 pos-right : (a b : ℕ) → 0 < a * b → 0 < b
 pos-right a zero h = absurd (not-suc-le-zero (rw mul-zero at h))
 pos-right a (suc b) h = omega arith
+
+-- a position before the end is one of a job that has pixels, and lies in one of its phases
+module _ (i : Inputs) (p : ℕ) (room : p < endOf i) where
+  pub some-pixel : 0 < pixelCount i
+  some-pixel = pos-right (layerCount i + 1) (pixelCount i) (omega arith)
+
+  pub phase-within : p / pixelCount i ≤ layerCount i
+  phase-within = let k : p / pixelCount i < layerCount i + 1 = div-lt-iff-lt-mul some-pixel .1 room in omega arith
 
 module _ (i : Inputs) (e : jobFault i .number ≡ 0) where
   pub pixels-small : pixelCount i ≤ slack * slack
@@ -84,23 +78,6 @@ module _ (i : Inputs) (e : jobFault i .number ≡ 0) where
   pub end-small : endOf i ≤ 1024 * (slack * slack)
   end-small = mul-le-mul layers-small pixels-small
 
-  -- a position before the end lies in a phase of the job
-  phase-within : (q : ℕ) → q < endOf i → q / pixelCount i ≤ layerCount i
-  phase-within q h =
-      let p : 0 < pixelCount i = pos-right (layerCount i + 1) (pixelCount i) (omega arith) in
-      let k : q / pixelCount i < layerCount i + 1 = div-lt-iff-lt-mul p .1 h in
-      omega arith
-
-  decodable : (k : ℕ) → k ≤ layerCount i → Decodable (settingOf i) k
-  decodable k h =
-      let a = accepted i e in
-      let l : k - 1 < layerCount i = omega (arith, a .count .least) in
-      record {
-        row = row-held i a (k - 1) l;
-        words = words-held i a (k - 1) l;
-        layer = a .layer (k - 1) l;
-      }
-
 -- ---- a call without a fault
 
 module _ (i : Inputs) (m : Mem) (e : callFault i m .number ≡ 0) where
@@ -108,64 +85,40 @@ module _ (i : Inputs) (m : Mem) (e : callFault i m .number ≡ 0) where
   unfolding callFault
   call-inputs = none-by (eqb (jobFault i .number) 0) (jobFault i) _ refl e .0
 
-  pub call-held : Held (pixelCount i) (endOf i) m
+  call-memory : Sized i m × (positionOf m ≤ endOf i)
   unfolding callFault
-  call-held = held (pixelCount i) (endOf i) m (none-by (eqb (jobFault i .number) 0) (jobFault i) _ refl e .1)
+  call-memory = memory-none i m (none-by (eqb (jobFault i .number) 0) (jobFault i) _ refl e .1)
 
-  sized : Sized (settingOf i) m
-  sized =
-      let a = accepted i call-inputs in
-      let h = call-held in
-      record {
-        picture = destination i a;
-        work0-length = omega (arith, h .work0-length);
-        work1-length = omega (arith, h .work1-length);
-        marked = omega (arith, h .checkpoint-length);
-      }
+  -- it has made none of its writes
+  pub call-midway : (due : ℕ) → due ≤ 5 * (endOf i - positionOf m) → Midway i (positionOf m) due 0 m
+  call-midway due l =
+      let h = call-memory in
+      record { fit = call-inputs; sized = h .0; position = omega arith; within = omega (arith, h .1) }
 
-  pub due : (allowance : ℕ) → Due (settingOf i) (positionOf m) (madeOf i allowance m) 0 m
-  due allowance =
-      let w = call-held .within in
-      let l = min-le-right allowance (5 * (endOf i - positionOf m)) in
-      let b = end-small i call-inputs in
-      record {
-        sized = sized;
-        layers = λ t h. decodable i call-inputs (t / 5 / pixelCount i) (phase-within i call-inputs (t / 5) (omega arith));
-        some = λ h. pos-right (layerCount i + 1) (pixelCount i) (omega arith);
-        position = refl;
-        fresh = refl;
-        bound = omega arith;
-        ahead = ahead-of i m e (madeOf i allowance m) l;
-      }
+-- and the other way
+pub midway-call : {i : Inputs} {p : ℕ} {m : Mem} → Midway i p 0 0 m → callFault i m .number ≡ 0
+unfolding callFault memoryFault
+midway-call {i} {p} {m} h =
+    let z = h .sized in
+    let w : positionOf m ≤ endOf i = omega (arith, h .position, h .within) in
+    simp (eq-eqb _ _ (h .fit), eq-eqb _ _ (z .works .length0), eq-eqb _ _ (z .works .length1), eq-eqb _ _ (z .checkpoint), le-ltb (endOf i) (positionOf m) w)
 
--- ---- the same of the numbers that the code has
+-- the inputs again, from their natural numbers
+pub inputs-natural : (i : Inputs) → jobFault i .number ≡ 0 → (e : Extent) → e .width ≡ natOf (i .width) → e .height ≡ natOf (i .height) → e .channels ≡ natOf (i .channels) → e .layers ≡ natOf (i .count)
+    → inputsBy e (i .dst) (i .table) (i .args) (i .samples) ≡ i
+inputs-natural i f e ew eh ec en =
+    let a = accepted i f in
+    rw (ew, eh, ec, en, ← (a .shape .wide .natural), ← (a .shape .high .natural), ← (a .shape .deep .natural), ← (a .count .natural))
 
-module _ (i : Inputs) (allowance : ℕ) (m : Mem) (w h n : ℕ) (ew : w ≡ natOf (i .width)) (eh : h ≡ natOf (i .height)) (en : n ≡ natOf (i .count)) where
-  pub end-is : (n + 1) * (w * h) ≡ endOf i
-  end-is = rw (ew, eh, en)
-
-  pub made-is : (made : ℕ) → made ≡ min allowance (5 * ((n + 1) * (w * h) - positionOf m)) → made ≡ madeOf i allowance m
-  made-is made e = e ∙ ap (λ (x : ℕ). min allowance (5 * (x - positionOf m))) end-is
-
-  pub due-is : (c made : ℕ) → c ≡ natOf (i .channels) → made ≡ madeOf i allowance m → callFault i m .number ≡ 0 → Due (setting w h c (i .dst) (i .table) (i .args) (i .samples)) (positionOf m) made 0 m
-  due-is c made ec em e = rw (ew, eh, ec, em) (due i m e allowance)
+pub end-is : (i : Inputs) {w h n : ℕ} → w ≡ natOf (i .width) → h ≡ natOf (i .height) → n ≡ natOf (i .count) → (n + 1) * (w * h) ≡ endOf i
+end-is i ew eh en = rw (ew, eh, en)
 
 -- ---- the outcome
 
-pub call-accepted : (i : Inputs) (allowance : ℕ) (m m′ : Mem) (w h c start made : ℕ) (flag : Bool)
-    → w ≡ natOf (i .width) → h ≡ natOf (i .height) → c ≡ natOf (i .channels) → start ≡ positionOf m → made ≡ madeOf i allowance m
-    → m′ ≡ runOf (setting w h c (i .dst) (i .table) (i .args) (i .samples)) (5 * start) made m
-    → flag ≡ eqb (positionOf m′) (endOf i)
-    → record { mem = m′; answer = acceptance made flag } ≡ acceptedOf i allowance m
+pub call-accepted : {i′ : Inputs} {m′ : Mem} {uses : ℕ} (i : Inputs) (allowance : ℕ) (m : Mem) → i′ ≡ i → uses ≡ madeOf i allowance m → m′ ≡ runOf i′ (5 * positionOf m) uses m
+    → record { mem = m′; answer = acceptance uses (eqb (positionOf m′) (endOf i)) } ≡ acceptedOf i allowance m
 unfolding acceptedOf
-call-accepted i allowance m m′ w h c start made flag ew eh ec es em e f =
-    let r : m′ ≡ runOf (settingOf i) (5 * positionOf m) (madeOf i allowance m) m = e ∙ rw (ew, eh, ec, es, em) in
-    ap (λ (b : Bool). done m′ made b) f
-    ∙ ap (λ (x : ℕ). done m′ x (eqb (positionOf m′) (endOf i))) em
-    ∙ ap (λ (x : Mem). done x (madeOf i allowance m) (eqb (positionOf x) (endOf i))) r
-  where
-    done : Mem → ℕ → Bool → Outcome
-    done x k b = record { mem = x; answer = acceptance k b }
+call-accepted i allowance m s e f = rw (f, s, e)
 
 pub call-refused : (i : Inputs) (allowance : ℕ) (m : Mem) (v : Verdict) → v ≡ callFault i m → (v .number ≡ 0 → ⊥) → record { mem = m; answer = refusal v } ≡ callOf i allowance m
 unfolding callOf
@@ -174,9 +127,3 @@ call-refused i allowance m v e h = rw (← e, ne-eqb (v .number) 0 h)
 pub call-made : (i : Inputs) (allowance : ℕ) (m : Mem) → callFault i m .number ≡ 0 → acceptedOf i allowance m ≡ callOf i allowance m
 unfolding callOf
 call-made i allowance m e = rw (eq-eqb (callFault i m .number) 0 e)
-
--- ---- and the other way: inputs without a fault, with memory that is held
-
-pub call-none : (i : Inputs) (m : Mem) → jobFault i .number ≡ 0 → Held (pixelCount i) (endOf i) m → callFault i m .number ≡ 0
-unfolding callFault
-call-none i m e h = rw (eq-eqb (jobFault i .number) 0 e) (held-none (pixelCount i) (endOf i) m h)

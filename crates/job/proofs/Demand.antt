@@ -10,8 +10,8 @@ use native.Mathlib.Nat.{min-le-left, min-le-right, min-eq-left, min-eq-right, ze
 use native.Mathlib.Numerals.{add-one}
 use native.Mathlib.Omega.{arith}
 use lib.Dec.{eqb}
-use lib.ListN.{length, getD, take, drop, length-take}
-use lib.Seq.{ext-getD, take-all, take-take}
+use lib.ListN.{length, take, drop, length-take}
+use lib.Seq.{ext-getD, take-all, take-take, take-length}
 use borrow.Author.Tests.{eq-eqb, ne-eqb}
 use Rattle.layers.specs.Inputs.{Inputs, jobFault}
 use Rattle.job.specs.declared.Answer.{Answer}
@@ -19,25 +19,20 @@ use Rattle.job.specs.declared.Write.{Write}
 use Rattle.job.specs.Memory.{Mem, memOf, positionOf, stored, workOf}
 use Rattle.job.specs.Job.{pixelCount, layerCount, endOf, callFault, acceptance, refusal}
 use Rattle.job.specs.Call.{madeOf, leftBy, Outcome, acceptedOf, callOf}
-use Rattle.job.specs.Model.{pictureOf, writeSequence, entriesOf, Buffer, own0, own1, other, CheckpointPlace, own, foreign, lentBuffer, lentCheckpoint, Loan, lent, Call, allowed, cut, refused, Seen, modelOf}
-use Rattle.job.specs.Demand.{is0, is1, checkpointReturned, returned, programOf, history, memoryAfter, FairCall, Fair, beneathIn, beneathOf, Underway, Demand3}
-use Rattle.job.proofs.Writes.{le-or-lt}
+use Rattle.job.specs.Loans.{lent, returned}
+use Rattle.job.specs.Model.{pictureOf, writeSequence, entriesOf, Call, allowed, cut, refused, Seen, modelOf}
+use Rattle.job.specs.Demand.{programOf, history, memoryAfter, FairCall, Fair, beneathIn, beneathOf, Underway, Demand3}
+use Rattle.job.proofs.OneWrite.{le-or-lt}
 use Rattle.job.proofs.Runs.{place-div}
+use Rattle.job.proofs.Parts.{start-midway}
 use Rattle.job.proofs.Sequence.{picture-length}
-use Rattle.job.proofs.Progress.{Progress, work-length, some-pixel, begun-again, left-length, Made, made}
-use Rattle.job.proofs.Checked.{call-inputs, call-held, call-none}
+use Rattle.job.proofs.Progress.{Progress, work-length, begun-again, left-length, Made, made}
+use Rattle.job.proofs.Checked.{some-pixel, call-inputs, call-midway, midway-call}
+use Rattle.job.specs.Uses.{UsesFrom}
+use Rattle.job.proofs.Loans.{returned-same}
+use Rattle.job.proofs.Uses.{uses-are, uses-few}
 
 -- ---- parts of a list
-
--- no more are taken than there are
-take-least : {A : Type 0} (n : ℕ) (xs : List A) → take (min n (length xs)) xs ≡ take n xs
-take-least n xs =
-    ⊎-elim
-    (λ l. ap (λ (k : ℕ). take k xs) (min-eq-left l))
-    (λ l.
-    let h : length xs ≤ n = omega arith in
-    ap (λ (k : ℕ). take k xs) (min-eq-right h) ∙ take-all (length xs) xs (omega arith) ∙ sym (take-all n xs h))
-    (le-or-lt n (length xs))
 
 take-cut : {A : Type 0} (k n : ℕ) (xs : List A) → take (min k n) xs ≡ take k (take n xs)
 take-cut k n xs =
@@ -49,29 +44,10 @@ take-cut k n xs =
     ap (λ (x : ℕ). take x xs) (min-eq-right h) ∙ sym (take-all k (take n xs) s))
     (le-or-lt k n)
 
+take-least : {A : Type 0} (n : ℕ) (xs : List A) → take (min n (length xs)) xs ≡ take n xs
+take-least n xs = take-cut n (length xs) xs ∙ ap (take n) (take-length xs)
+
 -- ---- a refused call
-
-back0 : (p : Buffer) (m : Mem) (x : List ℕ) → x ≡ m .work0 → cond (is0 p) (lentBuffer p m) x ≡ m .work0
-back0 own0 m x e = refl
-back0 own1 m x e = e
-back0 (other xs) m x e = e
-
-back1 : (p : Buffer) (m : Mem) (x : List ℕ) → x ≡ m .work1 → cond (is1 p) (lentBuffer p m) x ≡ m .work1
-back1 own0 m x e = e
-back1 own1 m x e = refl
-back1 (other xs) m x e = e
-
-back-checkpoint : (p : CheckpointPlace) (m : Mem) → checkpointReturned p (lentCheckpoint p m) (m .checkpoint) ≡ m .checkpoint
-back-checkpoint own m = refl
-back-checkpoint (foreign xs) m = refl
-
--- what is returned as it was lent leaves the job's memory as it was
-returned-same : (l : Loan) (m : Mem) → returned l m (lent l m) ≡ m
-returned-same l m =
-    same (back0 (l .place0) m _ (back0 (l .place1) m (m .work0) refl)) (back1 (l .place0) m _ (back1 (l .place1) m (m .work1) refl)) (back-checkpoint (l .checkpoint) m)
-  where
-    same : {a a′ b b′ c c′ : List ℕ} → a ≡ a′ → b ≡ b′ → c ≡ c′ → memOf a b c ≡ memOf a′ b′ c′
-    same e f g = cc
 
 call-still : (i : Inputs) (n : ℕ) (m : Mem) → (callFault i m .number ≡ 0 → ⊥) → callOf i n m ≡ record { mem = m; answer = refusal (callFault i m) }
 unfolding callOf
@@ -81,12 +57,10 @@ call-still i n m h = rw (ne-eqb (callFault i m .number) 0 h)
 
 module _ (i : Inputs) (fit : jobFault i .number ≡ 0) where
   abbrev pub Ok : Mem → Type 0
-  Ok m = Progress i m (positionOf m) 0
+  Ok m = Progress i m (positionOf m)
 
-  ok-call : (m : Mem) → Ok m → callFault i m .number ≡ 0
-  ok-call m v =
-      call-none i m fit
-      record { work0-length = v .work0-length; work1-length = v .work1-length; checkpoint-length = ap length (v .marked); within = v .within }
+  within : (m : Mem) → Ok m → positionOf m ≤ endOf i
+  within m v = omega (arith, v .call .within)
 
   made-call : (n : ℕ) (m : Mem) → Ok m → Made i m (positionOf m) (madeOf i n m)
   made-call n m v = made i m (positionOf m) (madeOf i n m) (min-le-right n _) v
@@ -111,16 +85,22 @@ module _ (i : Inputs) (fit : jobFault i .number ≡ 0) where
   call-is : (n : ℕ) (m : Mem) → Ok m → callOf i n m ≡ done (stored (entriesOf i n m) m) (length (entriesOf i n m))
   unfolding callOf acceptedOf done
   call-is n m v =
-      rw (eq-eqb (callFault i m .number) 0 (ok-call m v))
+      rw (eq-eqb (callFault i m .number) 0 (midway-call (v .call)))
       (ap (λ (x : Mem). done x (madeOf i n m)) (left-is n m v) ∙ ap (done (stored (entriesOf i n m) m)) (count-is n m))
 
   -- and has gained floor(made / 5) pixels
-  gained : (n : ℕ) (m : Mem) → Ok m → Progress i (stored (entriesOf i n m) m) (positionOf m + madeOf i n m / 5) 0
+  gained : (n : ℕ) (m : Mem) → Ok m → Progress i (stored (entriesOf i n m) m) (positionOf m + madeOf i n m / 5)
   gained n m v =
-      subst (λ (x : Mem). Progress i x (positionOf m + madeOf i n m / 5) 0) (left-is n m v) (begun-again i _ _ _ (made-call n m v .progress))
+      let c = start-midway {u = madeOf i n m} (v .call) refl refl in
+      let l = min-le-right n (5 * (endOf i - positionOf m)) in
+      subst (λ (x : Mem). Progress i x (positionOf m + madeOf i n m / 5)) (left-is n m v)
+      record {
+        call = record { fit = c .fit; sized = c .sized; position = omega (arith, c .position); within = omega (arith, within m v) };
+        here = λ z. begun-again i _ _ _ (made-call n m v .here z);
+      }
 
-  at-position : (m : Mem) (p : ℕ) → Progress i m p 0 → Ok m
-  at-position m p v = subst (λ (q : ℕ). Progress i m q 0) (sym (ap (λ (l : List ℕ). getD l 0 0) (v .marked))) v
+  at-position : (m : Mem) (p : ℕ) → Progress i m p → Ok m
+  at-position m p v = let e : p ≡ positionOf m = omega (arith, v .call .position) in subst (Progress i m) e v
 
   -- ---- one call
 
@@ -176,7 +156,7 @@ module _ (i : Inputs) (fit : jobFault i .number ≡ 0) where
   finished-ok m v e = ⊎-elim empty full (le-or-lt (pixelCount i) 0)
     where
       l : length (workOf (layerCount i) m) ≡ 4 * pixelCount i
-      l = work-length i m (positionOf m) 0 (layerCount i) v
+      l = work-length i m (layerCount i) (v .call .sized)
 
       empty : pixelCount i ≤ 0 → workOf (layerCount i) m ≡ pictureOf i (layerCount i)
       empty z =
@@ -203,30 +183,21 @@ module _ (i : Inputs) (fit : jobFault i .number ≡ 0) where
   unfolding done
   gain-ok m n v =
       ap (λ (o : Outcome). positionOf (o .mem)) (call-is n m v)
-      ∙ ap (λ (l : List ℕ). getD l 0 0) (gained n m v .marked)
-      ∙ ⊎-elim
-      (λ l.
-      let a : madeOf i n m ≡ n = min-eq-left l in
-      rw a (sym (min-eq-left (omega (arith, v .within)))))
-      (λ l.
-      let a : madeOf i n m ≡ 5 * (endOf i - positionOf m) = min-eq-right (omega arith) in
-      let b : endOf i ≤ positionOf m + n / 5 = omega (arith, v .within) in
-      rw (a, min-eq-right b) (omega (arith, v .within)))
-      (le-or-lt n (5 * (endOf i - positionOf m)))
+      ∙ gained n m v .call .position
+      ∙ omega (arith, within m v)
+
+  -- the first n uses of a call leave what the model has for the call cut after n
+  uses-ok : (m : Mem) (allowance : ℕ) (ws : List Write) → Ok m → UsesFrom i (positionOf m) (madeOf i allowance m) 0 m ws → ws ≡ take (length ws) (entriesOf i allowance m)
+  uses-ok m n ws v u =
+      let l = uses-few i m n ws u in
+      uses-are i m n ws v u ∙ sym (take-take (length ws) n (drop (5 * positionOf m) (writeSequence i)) (omega (arith, min-le-left n (5 * (endOf i - positionOf m)))))
 
 -- a job at position 0, with whatever its work buffers hold
-start-ok : (i : Inputs) (work0 work1 : List ℕ) → callFault i (memOf work0 work1 (0 ∷ [])) .number ≡ 0 → Progress i (memOf work0 work1 (0 ∷ [])) 0 0
-start-ok i work0 work1 e =
-    let h = call-held i (memOf work0 work1 (0 ∷ [])) e in
-    record {
-      work0-length = h .work0-length;
-      work1-length = h .work1-length;
-      marked = refl;
-      within = omega arith;
-      here = λ z.
-          rw (zero-mod (pixelCount i), zero-div (pixelCount i))
-          record { right = refl; below = λ b x. absurd (omega arith) };
-    }
+start-ok : (i : Inputs) (work0 work1 : List ℕ) → callFault i (memOf work0 work1 (0 ∷ [])) .number ≡ 0 → Progress i (memOf work0 work1 (0 ∷ [])) 0
+start-ok i work0 work1 e = record {
+  call = call-midway i (memOf work0 work1 (0 ∷ [])) e 0 (omega arith);
+  here = λ z. record { right = rw zero-mod refl; below = λ b x. absurd (omega (arith, zero-div (pixelCount i))) };
+}
 
 -- DEMAND 3. Of any job that is free of faults at position 0, whatever its work buffers hold, any list of calls, with any allowances, any of them cut
 -- after any number of writes, refused ones among them with whatever inputs and whatever lists, leaves and answers what the reference model says.
@@ -242,6 +213,7 @@ demand-3 i work0 work1 e calls f = record {
   finished = rw memory (finished-ok i fit after after-is);
   earlier = rw memory (earlier-ok i fit after after-is);
   gain = rw memory (λ n. gain-ok i fit after n after-is);
+  uses = rw memory (λ n ws. uses-ok i fit after n ws after-is);
 }
   where
     start : Mem
@@ -250,7 +222,7 @@ demand-3 i work0 work1 e calls f = record {
     fit : jobFault i .number ≡ 0
     fit = call-inputs i start e
 
-    ok : Progress i start 0 0
+    ok : Progress i start 0
     ok = start-ok i work0 work1 e
 
     after : Mem
@@ -259,5 +231,5 @@ demand-3 i work0 work1 e calls f = record {
     memory : memoryAfter (programOf i) start calls ≡ after
     memory = memories i fit start calls ok f
 
-    after-is : Progress i after (positionOf after) 0
+    after-is : Progress i after (positionOf after)
     after-is = after-ok i fit start calls ok

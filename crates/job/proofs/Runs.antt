@@ -1,22 +1,24 @@
--- Runs of writes: what a call makes is cut anywhere, a whole pixel is five of its writes, and "after the i-th use, the memory that a call allowed i
--- leaves". Assumes nothing.
+-- Runs of writes: they are cut anywhere; what they leave of the memory's lengths, of its position and of the picture beneath. Assumes nothing.
 use mathlib.Core.Path.{_≡_, refl, sym, ap, _∙_, subst}
 use mathlib.Core.List.{List}
+use mathlib.Core.Logic.{⊎-elim}
 use Prim.Native.Nat.{ℕ, zero, suc, _+_, _*_, _/_, _%_, _<_, _≤_}
 use native.Mathlib.Nat.{add-zero, add-suc, add-assoc, mul-add-div-right, mul-add-mod-self-right, div-eq-of-lt, mod-eq-of-lt}
 use native.Mathlib.Omega.{arith}
-use lib.ListN.{getD, take}
-use lib.Seq.{take-suc}
+use lib.ListN.{getD}
+use lib.Seq.{getD-set-same}
+use Rattle.layers.specs.Cells.{natOf}
+use Rattle.layers.specs.Inputs.{Inputs}
 use Rattle.layers.specs.Layers.{layerAt}
 use Rattle.pictures.specs.declared.Words.{Words}
 use Rattle.pictures.specs.Widen.{rgbaAt}
 use Rattle.compose.specs.Compose.{composedAt}
-use Rattle.job.specs.declared.Write.{Write}
 use Rattle.job.specs.declared.Write.the-variants.{Checkpoint}
-use Rattle.job.specs.Memory.{Mem, put, stored, workOf, fiveWrites, positionOf}
-use Rattle.job.specs.Call.{Setting, area, pixelOf, writeAt, runOf}
-use Rattle.job.specs.Steps.{someOf}
-use Rattle.job.proofs.Writes.{stored-snoc, five-other}
+use Rattle.job.specs.Memory.{Mem, put, workOf, fiveWrites, positionOf}
+use Rattle.job.specs.Job.{pixelCount}
+use Rattle.job.specs.Call.{pixelOf, writeAt, runOf}
+use Rattle.job.specs.Steps.{Sized, Midway}
+use Rattle.job.proofs.OneWrite.{le-or-lt, put-sized, word-checkpoint, word-at, five-other}
 
 -- ---- quotient and remainder of a position
 
@@ -31,23 +33,13 @@ module _ (n p k j : ℕ) (split : p ≡ k * n + j) (inside : j < n) where
 
 -- ---- a run is cut anywhere
 
-pub run-split : (s : Setting) (t a b : ℕ) (m : Mem) → runOf s t (a + b) m ≡ runOf s (t + a) b (runOf s t a m)
+pub run-split : (i : Inputs) (t a b : ℕ) (m : Mem) → runOf i t (a + b) m ≡ runOf i (t + a) b (runOf i t a m)
 unfolding runOf
-run-split s t a zero m = ap (λ (x : ℕ). runOf s t x m) (add-zero a)
-run-split s t a (suc b) m =
-    ap (λ (x : ℕ). runOf s t x m) (add-suc a b)
-    ∙ ap (λ (r : Mem). put (writeAt s r ((t + (a + b)) / 5) ((t + (a + b)) % 5)) r) (run-split s t a b m)
-    ∙ ap (λ (x : ℕ). let r = runOf s (t + a) b (runOf s t a m) in put (writeAt s r (x / 5) (x % 5)) r) (sym (add-assoc t a b))
-
--- one more stretch of writes after a of them
-pub run-on : (s : Setting) (t a b : ℕ) (m₀ m m′ : Mem) (u n : ℕ)
-    → m ≡ runOf s t a m₀ → u ≡ t + a → m′ ≡ runOf s u b m → n ≡ a + b → m′ ≡ runOf s t n m₀
-run-on s t a b m₀ m m′ u n h e f g =
-    f
-    ∙ ap (λ (x : ℕ). runOf s x b m) e
-    ∙ ap (λ (x : Mem). runOf s (t + a) b x) h
-    ∙ sym (run-split s t a b m₀)
-    ∙ ap (λ (x : ℕ). runOf s t x m₀) (sym g)
+run-split i t a zero m = ap (λ (x : ℕ). runOf i t x m) (add-zero a)
+run-split i t a (suc b) m =
+    ap (λ (x : ℕ). runOf i t x m) (add-suc a b)
+    ∙ ap (λ (r : Mem). put (writeAt i r (t + (a + b))) r) (run-split i t a b m)
+    ∙ ap (λ (x : ℕ). let r = runOf i (t + a) b (runOf i t a m) in put (writeAt i r x) r) (sym (add-assoc t a b))
 
 -- ---- the picture beneath stays
 
@@ -55,66 +47,62 @@ run-on s t a b m₀ m m′ u n h e f g =
 abbrev pub Under : ℕ → Mem → Mem → Type 0
 Under k m m′ = (b : ℕ) → suc b ≡ k → workOf b m ≡ workOf b m′
 
-pub under-pixel : (s : Setting) (k : ℕ) (m m′ : Mem) (j : ℕ) → Under k m m′ → pixelOf s m k j ≡ pixelOf s m′ k j
+pub under-pixel : (i : Inputs) (k : ℕ) (m m′ : Mem) (j : ℕ) → Under k m m′ → pixelOf i m k j ≡ pixelOf i m′ k j
 unfolding pixelOf
-under-pixel s zero m m′ j h = refl
-under-pixel s (suc k) m m′ j h =
-    ap (λ (l : List ℕ). composedAt (s .samples) (layerAt (s .table) (s .args) k) (s .width) (s .height) (rgbaAt l 4) j) (h k refl)
+under-pixel i zero m m′ j h = refl
+under-pixel i (suc k) m m′ j h =
+    ap (λ (l : List ℕ). composedAt (i .samples) (layerAt (i .table) (i .args) k) (natOf (i .width)) (natOf (i .height)) (rgbaAt l 4) j) (h k refl)
 
 -- a write of phase k leaves it
 pub under-write : (k j : ℕ) (w : Words) (q c : ℕ) (m : Mem) → Under k (put (getD (fiveWrites k j w q) c (Checkpoint 0)) m) m
 under-write k j w q c m b e =
     subst (λ (x : ℕ). workOf b (put (getD (fiveWrites x j w q) c (Checkpoint 0)) m) ≡ workOf b m) e (five-other b j w q c m)
 
--- ---- the writes of one pixel
+-- a run that lies in phase k leaves it
+pub run-under : (i : Inputs) (start uses n k j : ℕ) (m : Mem) → start + uses / 5 ≡ k * pixelCount i + j → 5 * j + (uses % 5 + n) ≤ 5 * pixelCount i → Under k (runOf i (5 * start + uses) n m) m
+unfolding runOf writeAt
+run-under i start uses zero k j m e h b f = refl
+run-under i start uses (suc n) k j m e h b f =
+    let p = (5 * start + uses + n) / 5 in
+    let x = j + (uses % 5 + n) / 5 in
+    let q : p ≡ k * pixelCount i + x = omega (arith, e) in
+    let d : p / pixelCount i ≡ k = place-div (pixelCount i) p k x q (omega arith) in
+    let r = runOf i (5 * start + uses) n m in
+    under-write (p / pixelCount i) (p % pixelCount i) (pixelOf i r (p / pixelCount i) (p % pixelCount i)) (p + 1) ((5 * start + uses + n) % 5) r b (f ∙ sym d)
+    ∙ run-under i start uses n k j m e (omega arith) b f
 
--- write c of the pixel that is due, by the number of the write
-write-due : (s : Setting) (m : Mem) (k j q c : ℕ) → j < area s → q ≡ k * area s + j → c < 5
-    → writeAt s m ((5 * q + c) / 5) ((5 * q + c) % 5) ≡ getD (fiveWrites k j (pixelOf s m k j) (q + 1)) c (Checkpoint 0)
+-- a write of pixel j of phase k
+pub write-is : (i : Inputs) (m : Mem) (t k j : ℕ) → t / 5 ≡ k * pixelCount i + j → j < pixelCount i → writeAt i m t ≡ getD (fiveWrites k j (pixelOf i m k j) (t / 5 + 1)) (t % 5) (Checkpoint 0)
 unfolding writeAt
-write-due s m k j q c inside split h =
-    let a : (5 * q + c) / 5 ≡ q = omega arith in
-    let b : (5 * q + c) % 5 ≡ c = omega arith in
-    rw (a, b, place-div (area s) q k j split inside, place-mod (area s) q k j split inside)
+write-is i m t k j e h = rw (place-div (pixelCount i) (t / 5) k j e h, place-mod (pixelCount i) (t / 5) k j e h)
 
--- after c of the five writes: the memory, and the pixel as it was found
-record Used (s : Setting) (m : Mem) (k j c : ℕ) : Type 0 where
-  same : someOf k j (pixelOf s m k j) c m ≡ runOf s (5 * positionOf m) c m
-  under : Under k (runOf s (5 * positionOf m) c m) m
+-- ---- the state of a call
 
-module _ (s : Setting) (m : Mem) (k j : ℕ) (inside : j < area s) (split : positionOf m ≡ k * area s + j) where
-  abbrev five : List Write
-  five = fiveWrites k j (pixelOf s m k j) (positionOf m + 1)
+-- a word leaves the position, and the fifth write raises it
+write-position : (i : Inputs) (m : Mem) (t : ℕ) → Sized i m → positionOf m ≡ t / 5 → positionOf (put (writeAt i m t) m) ≡ suc t / 5
+unfolding writeAt
+write-position i m t z e =
+    let p = t / 5 in
+    let c = t % 5 in
+    let w = pixelOf i m (p / pixelCount i) (p % pixelCount i) in
+    ⊎-elim
+    (λ l.
+    rw (word-at (p / pixelCount i) (p % pixelCount i) w (p + 1) (Checkpoint 0) c (omega arith))
+    (ap (λ (l : List ℕ). getD l 0 0) (word-checkpoint (4 * (p % pixelCount i) + c) _ m (p / pixelCount i)) ∙ omega (arith, e)))
+    (λ l. let f : c ≡ 4 = omega arith in rw f (getD-set-same (m .checkpoint) 0 (p + 1) 0 (omega (arith, z .checkpoint)) ∙ omega arith))
+    (le-or-lt c 3)
 
-  next-write : (c : ℕ) → c < 5 → Under k (runOf s (5 * positionOf m) c m) m
-      → runOf s (5 * positionOf m) (suc c) m ≡ put (getD five c (Checkpoint 0)) (runOf s (5 * positionOf m) c m)
-  unfolding runOf
-  next-write c h u =
-      let r = runOf s (5 * positionOf m) c m in
-      ap (λ (w : Write). put w r) (write-due s r k j (positionOf m) c inside split h)
-      ∙ ap (λ (w : Words). put (getD (fiveWrites k j w (positionOf m + 1)) c (Checkpoint 0)) r) (under-pixel s k r m j u)
-
-  used : (c : ℕ) → c ≤ 5 → Used s m k j c
-  unfolding runOf stored
-  used zero h = record { same = refl; under = λ b e. refl }
-  used (suc c) h =
-      let u = used c (omega arith) in
-      let n = next-write c (omega arith) (u .under) in
-      let r = runOf s (5 * positionOf m) c m in
-      record {
-        same =
-            ap (λ (ws : List Write). stored ws m) (take-suc five c (Checkpoint 0) (omega arith))
-            ∙ stored-snoc (take c five) (getD five c (Checkpoint 0)) m
-            ∙ ap (put (getD five c (Checkpoint 0))) (u .same)
-            ∙ sym n;
-        under = λ b e. ap (workOf b) n ∙ under-write k j (pixelOf s m k j) (positionOf m + 1) c r b e ∙ u .under b e;
-      }
-
-  -- After the c-th use of `store` in a pixel, memory is what a call allowed c leaves.
-  pub uses : (c : ℕ) → c ≤ 5 → someOf k j (pixelOf s m k j) c m ≡ runOf s (5 * positionOf m) c m
-  uses c h = used c h .same
-
--- no write yet
-pub run-none : (s : Setting) (t : ℕ) (m : Mem) → m ≡ runOf s t 0 m
+-- after n more writes
+pub run-midway : {i : Inputs} {start due uses : ℕ} {m : Mem} → Midway i start due uses m → (n : ℕ) → Midway i start due (uses + n) (runOf i (5 * start + uses) n m)
 unfolding runOf
-run-none s t m = refl
+run-midway {i} {start} {due} {uses} {m} h zero = subst (λ (x : ℕ). Midway i start due x m) (sym (add-zero uses)) h
+run-midway {i} {start} {due} {uses} {m} h (suc n) =
+    let v = run-midway h n in
+    let t = 5 * start + uses + n in
+    let r = runOf i (5 * start + uses) n m in
+    record {
+      fit = v .fit;
+      sized = put-sized (writeAt i r t) r (v .sized);
+      position = write-position i r t (v .sized) (v .position ∙ omega arith) ∙ omega arith;
+      within = v .within;
+    }

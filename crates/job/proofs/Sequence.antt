@@ -17,7 +17,7 @@ use Rattle.job.specs.declared.Write.{Write}
 use Rattle.job.specs.declared.Write.the-variants.{Checkpoint}
 use Rattle.job.specs.Memory.{Mem, workOf, fiveWrites}
 use Rattle.job.specs.Job.{pixelCount, layerCount, endOf}
-use Rattle.job.specs.Call.{settingOf, pixelOf, writeAt}
+use Rattle.job.specs.Call.{pixelOf, writeAt}
 use Rattle.job.specs.Model.{pictureOf, pictureWrites, writeSequence}
 use Rattle.job.proofs.Blocks.{length-blocks, getD-blocks}
 use Rattle.pictures.proofs.FlatWords.{flat-pixel}
@@ -34,7 +34,7 @@ whole-pixel f n j h = ap (λ (l : List ℕ). rgbaAt l 4 j) (sym (append-nil (fla
 
 -- Where the picture beneath is the model's, the pixel that a call works out is the model's.
 pub pixel-right : (i : Inputs) (m : Mem) (k j : ℕ) → j < pixelCount i → ((b : ℕ) → suc b ≡ k → workOf b m ≡ pictureOf i b)
-    → pixelOf (settingOf i) m k j ≡ rgbaAt (pictureOf i k) 4 j
+    → pixelOf i m k j ≡ rgbaAt (pictureOf i k) 4 j
 unfolding pixelOf pictureOf
 pixel-right i m zero j h below = sym (whole-pixel _ (pixelCount i) j h)
 pixel-right i m (suc k) j h below =
@@ -42,9 +42,6 @@ pixel-right i m (suc k) j h below =
     ∙ sym (whole-pixel _ (pixelCount i) j h)
 
 -- ---- the write sequence
-
-five-length : (k j : ℕ) (w : Words) (q : ℕ) → length (fiveWrites k j w q) ≡ 5
-five-length k j w q = refl
 
 picture-writes : (i : Inputs) (k : ℕ) → length (pictureWrites i k) ≡ pixelCount i * 5
 unfolding pictureWrites
@@ -90,9 +87,11 @@ module _ (i : Inputs) (p : ℕ) (room : p < endOf i) (pos : 0 < pixelCount i) wh
       ∙ ap (λ (x : ℕ). getD (fiveWrites (p / pixelCount i) (p % pixelCount i) (rgbaAt (pictureOf i (p / pixelCount i)) 4 (p % pixelCount i)) (x + 1)) c d) e
 
   -- Where the picture beneath is the model's, the write that a call makes is the model's.
-  pub write-right : (m : Mem) (c : ℕ) → c < 5 → ((b : ℕ) → suc b ≡ p / pixelCount i → workOf b m ≡ pictureOf i b)
-      → writeAt (settingOf i) m p c ≡ getD (writeSequence i) (5 * p + c) (Checkpoint 0)
+  pub write-right : (m : Mem) (t : ℕ) → t / 5 ≡ p → ((b : ℕ) → suc b ≡ p / pixelCount i → workOf b m ≡ pictureOf i b)
+      → writeAt i m t ≡ getD (writeSequence i) t (Checkpoint 0)
   unfolding writeAt
-  write-right m c h below =
-      ap (λ (w : Words). getD (fiveWrites (p / pixelCount i) (p % pixelCount i) w (p + 1)) c (Checkpoint 0)) (pixel-right i m (p / pixelCount i) (p % pixelCount i) due-pixel below)
-      ∙ sym (sequence-five c (Checkpoint 0) h)
+  write-right m t e below =
+      let f : t ≡ 5 * p + t % 5 = omega arith in
+      rw e (ap (λ (w : Words). getD (fiveWrites (p / pixelCount i) (p % pixelCount i) w (p + 1)) (t % 5) (Checkpoint 0)) (pixel-right i m (p / pixelCount i) (p % pixelCount i) due-pixel below))
+      ∙ sym (sequence-five (t % 5) (Checkpoint 0) (omega arith))
+      ∙ ap (λ (x : ℕ). getD (writeSequence i) x (Checkpoint 0)) (sym f)

@@ -1,41 +1,21 @@
 -- The customer's demand 3 as a statement: a list of calls as the program makes them, by their contract, beside the same list in the reference model.
 -- Definitions only; proofs/Demand has the theorem.
 use mathlib.Core.Path.{_≡_}
-use mathlib.Core.Bool.{Bool, true, false, cond}
+use mathlib.Core.Bool.{cond}
 use mathlib.Core.List.{List, [], _∷_}
 use Prim.Native.Nat.{ℕ, zero, suc, _+_, _*_, _/_, _%_, _<_, min}
-use lib.ListN.{take}
+use lib.ListN.{length, take}
 use Rattle.faults.specs.Faults.{NONE}
 use Rattle.layers.specs.Inputs.{Inputs}
-use Rattle.job.specs.Memory.{Mem, memOf, positionOf, workOf}
+use Rattle.job.specs.Memory.{Mem, positionOf, workOf}
 use Rattle.job.specs.Job.{pixelCount, layerCount, endOf, callFault}
-use Rattle.job.specs.Call.{callOf}
-use Rattle.job.specs.Model.{pictureOf, Buffer, own0, own1, other, CheckpointPlace, own, foreign, Loan, lent, Call, allowed, cut, refused, Seen, modelOf}
+use Rattle.job.specs.declared.Write.{Write}
+use Rattle.job.specs.Call.{madeOf, callOf}
+use Rattle.job.specs.Uses.{UsesFrom}
+use Rattle.job.specs.Loans.{lent, returned}
+use Rattle.job.specs.Model.{pictureOf, entriesOf, Call, allowed, cut, refused, Seen, modelOf}
 
 -- ---- the program's calls
-
--- whether a place was lent the job's work buffer 0, or 1
-abbrev pub is0 : Buffer → Bool
-is0 own0 = true
-is0 own1 = false
-is0 (other xs) = false
-
-abbrev pub is1 : Buffer → Bool
-is1 own0 = false
-is1 own1 = true
-is1 (other xs) = false
-
-abbrev pub checkpointReturned : CheckpointPlace → List ℕ → List ℕ → List ℕ
-checkpointReturned own after before = after
-checkpointReturned (foreign xs) after before = before
-
--- the job's memory once a call has left what it was lent as `after`
-abbrev pub returned : Loan → Mem → Mem → Mem
-returned l m after =
-    memOf
-    (cond (is0 (l .place0)) (after .work0) (cond (is0 (l .place1)) (after .work1) (m .work0)))
-    (cond (is1 (l .place0)) (after .work0) (cond (is1 (l .place1)) (after .work1) (m .work1)))
-    (checkpointReturned (l .checkpoint) (after .checkpoint) (m .checkpoint))
 
 -- What a call of the program leaves and answers, by its contract. A call cut after so many writes is a call allowed so many.
 unfoldable pub programOf : Inputs → Mem → Call → Seen
@@ -101,3 +81,8 @@ pub record Demand3 (i : Inputs) (start : Mem) (calls : List Call) : Type 0 where
       (n : ℕ)
       → positionOf (callOf i n (memoryAfter (programOf i) start calls) .mem)
       ≡ min (positionOf (memoryAfter (programOf i) start calls) + n / 5) (endOf i)
+  -- and its uses of `store`, as the contract of `store` allows them one after the other, are the model's entries
+  pub uses :
+      (n : ℕ) (ws : List Write)
+      → (let m = memoryAfter (programOf i) start calls in UsesFrom i (positionOf m) (madeOf i n m) 0 m ws)
+      → ws ≡ take (length ws) (entriesOf i n (memoryAfter (programOf i) start calls))

@@ -13,8 +13,9 @@ use Rattle.pictures.specs.Widen.{rgbaAt}
 use Rattle.compose.specs.Compose.{composedAt}
 use Rattle.job.specs.declared.Answer.{Answer}
 use Rattle.job.specs.declared.Write.{Write}
-use Rattle.job.specs.Memory.{Mem, memOf, positionOf, stored, fiveWrites}
+use Rattle.job.specs.Memory.{Mem, positionOf, stored, fiveWrites}
 use Rattle.job.specs.Job.{pixelCount, layerCount, endOf, callFault, acceptance, refusal}
+use Rattle.job.specs.Loans.{Loan, lent}
 
 -- ---- the pictures
 
@@ -45,23 +46,6 @@ writeSequence i = blocks (pictureWrites i) 0 (layerCount i + 1)
 
 -- ---- the calls
 
--- what a call is lent for a work buffer: the job's work buffer 0 or 1, or another list
-pub data Buffer : Type 0 where
-  own0 : Buffer
-  own1 : Buffer
-  other : List ℕ → Buffer
-
--- and for a checkpoint
-pub data CheckpointPlace : Type 0 where
-  own : CheckpointPlace
-  foreign : List ℕ → CheckpointPlace
-
--- the three places of a call, in which it may be lent the job's own lists, also out of their places
-pub record Loan : Type 0 where
-  pub place0 : Buffer
-  pub place1 : Buffer
-  pub checkpoint : CheckpointPlace
-
 pub data Call : Type 0 where
   -- a call with the job's inputs, work buffers and checkpoint, allowed so many writes
   allowed : (allowance : ℕ) → Call
@@ -69,19 +53,6 @@ pub data Call : Type 0 where
   cut : (allowance writes : ℕ) → Call
   -- a call that is refused, with whatever inputs, allowance and lists; uncut or not
   refused : Inputs → (allowance : ℕ) → Loan → (uncut : Bool) → Call
-
-abbrev pub lentBuffer : Buffer → Mem → List ℕ
-lentBuffer own0 m = m .work0
-lentBuffer own1 m = m .work1
-lentBuffer (other xs) m = xs
-
-abbrev pub lentCheckpoint : CheckpointPlace → Mem → List ℕ
-lentCheckpoint own m = m .checkpoint
-lentCheckpoint (foreign xs) m = xs
-
--- the memory that a call finds
-abbrev pub lent : Loan → Mem → Mem
-lent l m = memOf (lentBuffer (l .place0) m) (lentBuffer (l .place1) m) (lentCheckpoint (l .checkpoint) m)
 
 -- what is seen of a call: the job's memory after it, and its answer if it was not cut
 pub record Seen : Type 0 where

@@ -1,14 +1,16 @@
 // A call of a job: its checks, then the writes that it is allowed, then its answer.
 ghost use mathlib.Core.Path.{_≡_};
 ghost use Prim.Native.Nat.{_+_, _*_, _≤_};
+ghost use lib.Dec.{eqb};
 ghost use Rattle.faults.specs.Faults.{NONE};
 ghost use Rattle.layers.specs.Inputs.{inputsOf};
 ghost use Rattle.job.specs.Memory.{memOf};
-ghost use Rattle.job.specs.Job.{memoryFault, callFault};
+ghost use Rattle.job.specs.Job.{memoryFault, callFault, acceptance};
 ghost use Rattle.job.specs.Call.{outcome, acceptedOf, callOf};
 ghost use Rattle.job.specs.Steps.{mostPosition};
 use crate::Answer;
-use crate::stretch::writes;
+use crate::Extent;
+use crate::writes::writes;
 use compose::run::least;
 use faults::Fault;
 use layers::Verdict;
@@ -66,6 +68,18 @@ fn fault(
     }
 }
 
+// What a call without a fault answers: the writes that it made, and whether its position is the end.
+fn acceptance(stores: u64, position: u64, end: u64) -> Answer
+    ensures { λ r. ⌜ r ≡ acceptance stores (eqb position end) ⌝ }
+{
+    Answer {
+        number: Fault::NONE,
+        layer: 0,
+        stores,
+        finished: position == end,
+    }
+}
+
 // A call without a fault.
 fn accepted(
     width: i64,
@@ -89,33 +103,31 @@ fn accepted(
 {
     let w = natural(width);
     let h = natural(height);
-    let end = (natural(count) + 1) * (w * h);
+    let layers = natural(count);
+    let end = (layers + 1) * (w * h);
     let start = checkpoint[0] as usize;
     let left = 5 * (end - start);
-    let made = least(allowance as usize, left);
-    let mut turn = 0u64;
+    let extent = Extent {
+        width: w,
+        height: h,
+        channels: natural(channels),
+        layers,
+        start,
+        due: least(allowance as usize, left),
+    };
+    let mut uses = 0u64;
     writes(
-        w,
-        h,
-        natural(channels),
+        extent,
         dst,
         table,
         args,
         samples,
-        start,
-        made,
         work0,
         work1,
         checkpoint,
-        &mut turn,
+        &mut uses,
     );
-    let finished = checkpoint[0] as usize == end;
-    Answer {
-        number: Fault::NONE,
-        layer: 0,
-        stores: made as u64,
-        finished,
-    }
+    acceptance(uses, checkpoint[0], end as u64)
 }
 
 // A call of a job, allowed so many writes. Its whole outcome, for every input and whatever the lists hold, is `callOf`.

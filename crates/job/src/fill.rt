@@ -1,0 +1,58 @@
+// Pixels of one phase, composed into a buffer.
+ghost use mathlib.Core.Path.{_≡_};
+ghost use mathlib.Core.List.{[]};
+ghost use Prim.Native.Nat.{_+_, _*_, _≤_};
+ghost use lib.ListN.{length};
+ghost use Rattle.pictures.specs.FlatWords.{filled};
+ghost use Rattle.job.specs.Memory.{memOf};
+ghost use Rattle.job.specs.Call.{pixelOf};
+ghost use Rattle.job.specs.Uses.{inputsBy};
+ghost use Rattle.job.specs.Steps.{Fillable};
+use crate::Extent;
+use compose::cell::plan;
+use compose::run::span;
+use compose::source::source_of;
+use layers::Layer;
+use pictures::flat::widen;
+
+// Pixels from .. from + count of phase k, at the front of out: phase 0 widens the destination, a later one composites its layer on the picture in work
+// (k - 1) mod 2.
+pub fn fill(
+    extent: Extent,
+    dst: &[u32],
+    table: &[i64],
+    args: &[u32],
+    samples: &[u32],
+    work0: &[u32],
+    work1: &[u32],
+    k: usize,
+    from: usize,
+    count: usize,
+    out: &mut [u32],
+)
+    requires { ⌜
+        (Fillable (inputsBy extent (now dst) (now table) (now args) (now samples)) k from count (now work0) (now work1))
+        × (4 * count ≤ length (now out))
+        ⌝ }
+    ensures { λ _. ⌜
+        now (out .exit)
+        ≡ filled
+        (λ x.
+        pixelOf (inputsBy extent (now (dst .entry)) (now (table .entry)) (now (args .entry)) (now (samples .entry)))
+        (memOf (now (work0 .entry)) (now (work1 .entry)) []) k (from + x))
+        count (now (out .entry))
+        ⌝ }
+{
+    if k == 0 {
+        widen(dst, extent.channels, from, count, out);
+        return;
+    }
+    let l = Layer::at(table, args, k - 1);
+    let p = plan(l, extent.width, extent.height);
+    let source = source_of(samples, l);
+    if (k - 1) % 2 == 0 {
+        span(p, source, work0, from, count, out);
+        return;
+    }
+    span(p, source, work1, from, count, out);
+}

@@ -1,0 +1,148 @@
+// The writes of a pixel, and of the pixels of a span, from the buffer that they were composed into.
+ghost use mathlib.Core.Path.{_≡_};
+ghost use Prim.Native.Nat.{_+_, _*_, _<_, _≤_};
+ghost use lib.ListN.{length, getD};
+ghost use Rattle.pictures.specs.Widen.{rgbaAt};
+ghost use Rattle.job.specs.declared.Write.the-variants.{Checkpoint};
+ghost use Rattle.job.specs.Memory.{memOf, fiveWrites};
+ghost use Rattle.job.specs.Uses.{inputsBy};
+ghost use Rattle.job.specs.Steps.{mostPosition, Part, Buffered, Ran};
+use crate::Extent;
+use crate::Write;
+use crate::store::store;
+
+// Write c of the five of pixel j of picture k, whose words are pixel x of the buffer: red, green, blue, alpha, then the position, raised by one.
+fn write_of(k: usize, j: usize, buf: &[u32], x: usize, c: usize, position: u64) -> Write
+    requires { ⌜ (c < 5) × (c < 4 → 4 * x + c < length (now buf)) × (4 * j < mostPosition) × (position < mostPosition) ⌝ }
+    ensures { λ r. ⌜ r ≡ getD (fiveWrites k j (rgbaAt (now (buf .entry)) 4 x) (position + 1)) c (Checkpoint 0) ⌝ }
+{
+    if c == 4 {
+        return Write::Checkpoint {
+            position: position + 1,
+        };
+    }
+    let at = 4 * j + c;
+    let word = buf[4 * x + c];
+    if k % 2 == 0 {
+        return Write::Work0 { at, word };
+    }
+    Write::Work1 { at, word }
+}
+
+// The first n writes of pixel x of the buffer, which is pixel from + x of picture k. The position is read back from the checkpoint after alpha's write,
+// so that the compiled writes keep their order.
+fn pixel(
+    extent: Extent,
+    dst: &[u32],
+    table: &[i64],
+    args: &[u32],
+    samples: &[u32],
+    work0: &mut [u32],
+    work1: &mut [u32],
+    checkpoint: &mut [u64],
+    uses: &mut u64,
+    k: usize,
+    from: usize,
+    x: usize,
+    n: usize,
+    buf: &[u32],
+)
+    requires { ⌜
+        (Part (inputsBy extent (now dst) (now table) (now args) (now samples)) (extent .start) (extent .due)
+        (now uses) k (from + x) n (memOf (now work0) (now work1) (now checkpoint)))
+        × (Buffered (inputsBy extent (now dst) (now table) (now args) (now samples)) k from (5 * x + n)
+        (memOf (now work0) (now work1) (now checkpoint)) (now buf))
+        × (n ≤ 5)
+        ⌝ }
+    ensures { λ _. ⌜
+        Ran (inputsBy extent (now (dst .entry)) (now (table .entry)) (now (args .entry)) (now (samples .entry))) (extent .start)
+        (now (uses .entry)) n (now (uses .exit))
+        (memOf (now (work0 .entry)) (now (work1 .entry)) (now (checkpoint .entry)))
+        (memOf (now (work0 .exit)) (now (work1 .exit)) (now (checkpoint .exit)))
+        ⌝ }
+{
+    let mut c = 0;
+    while c < n {
+        let write = write_of(k, from + x, buf, x, c, checkpoint[0]);
+        store(
+            extent,
+            dst,
+            table,
+            args,
+            samples,
+            work0,
+            work1,
+            checkpoint,
+            uses,
+            write,
+        );
+        c += 1;
+    }
+}
+
+// The next n writes, those of picture k from pixel `from` on, out of the buffer: whole pixels, and the first writes of one more.
+pub fn write_out(
+    extent: Extent,
+    dst: &[u32],
+    table: &[i64],
+    args: &[u32],
+    samples: &[u32],
+    work0: &mut [u32],
+    work1: &mut [u32],
+    checkpoint: &mut [u64],
+    uses: &mut u64,
+    k: usize,
+    from: usize,
+    n: usize,
+    buf: &[u32],
+)
+    requires { ⌜
+        (Part (inputsBy extent (now dst) (now table) (now args) (now samples)) (extent .start) (extent .due)
+        (now uses) k from n (memOf (now work0) (now work1) (now checkpoint)))
+        × (Buffered (inputsBy extent (now dst) (now table) (now args) (now samples)) k from n
+        (memOf (now work0) (now work1) (now checkpoint)) (now buf))
+        ⌝ }
+    ensures { λ _. ⌜
+        Ran (inputsBy extent (now (dst .entry)) (now (table .entry)) (now (args .entry)) (now (samples .entry))) (extent .start)
+        (now (uses .entry)) n (now (uses .exit))
+        (memOf (now (work0 .entry)) (now (work1 .entry)) (now (checkpoint .entry)))
+        (memOf (now (work0 .exit)) (now (work1 .exit)) (now (checkpoint .exit)))
+        ⌝ }
+{
+    let mut x = 0;
+    while x < n / 5 {
+        pixel(
+            extent,
+            dst,
+            table,
+            args,
+            samples,
+            work0,
+            work1,
+            checkpoint,
+            uses,
+            k,
+            from,
+            x,
+            5,
+            buf,
+        );
+        x += 1;
+    }
+    pixel(
+        extent,
+        dst,
+        table,
+        args,
+        samples,
+        work0,
+        work1,
+        checkpoint,
+        uses,
+        k,
+        from,
+        n / 5,
+        n % 5,
+        buf,
+    );
+}

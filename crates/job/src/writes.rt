@@ -1,0 +1,78 @@
+// The writes of an accepted call, span by span: pixels of one phase are composed into a private buffer and written from it.
+ghost use mathlib.Core.Path.{_≡_};
+ghost use Prim.Native.Nat.{_*_};
+ghost use Rattle.job.specs.Memory.{memOf};
+ghost use Rattle.job.specs.Call.{runOf};
+ghost use Rattle.job.specs.Uses.{inputsBy};
+ghost use Rattle.job.specs.Steps.{Midway};
+use crate::Extent;
+use crate::fill::fill;
+use crate::pixel::write_out;
+use compose::run::least;
+
+// The writes of the pixels that are composed at a time, 128: enough that decoding their layer each time counts for little, few enough that clearing the
+// buffer does not in a short call.
+const SPAN: usize = 640;
+
+// The writes that are due, from the position `start` on.
+pub fn writes(
+    extent: Extent,
+    dst: &[u32],
+    table: &[i64],
+    args: &[u32],
+    samples: &[u32],
+    work0: &mut [u32],
+    work1: &mut [u32],
+    checkpoint: &mut [u64],
+    uses: &mut u64,
+)
+    requires { ⌜
+        (now uses ≡ 0)
+        × (Midway (inputsBy extent (now dst) (now table) (now args) (now samples)) (extent .start) (extent .due)
+        (now uses) (memOf (now work0) (now work1) (now checkpoint)))
+        ⌝ }
+    ensures { λ _. ⌜
+        (memOf (now (work0 .exit)) (now (work1 .exit)) (now (checkpoint .exit))
+        ≡ runOf (inputsBy extent (now (dst .entry)) (now (table .entry)) (now (args .entry)) (now (samples .entry))) (5 * extent .start) (now (uses .exit))
+        (memOf (now (work0 .entry)) (now (work1 .entry)) (now (checkpoint .entry))))
+        × (now (uses .exit) ≡ extent .due)
+        ⌝ }
+{
+    let n = extent.width * extent.height;
+    let mut buf = [0u32; 512];
+    while (*uses as usize) < extent.due {
+        let done = *uses as usize;
+        let at = extent.start + done / 5;
+        let k = at / n;
+        let from = at % n;
+        let m = least(SPAN, least(extent.due - done, 5 * (n - from)));
+        fill(
+            extent,
+            dst,
+            table,
+            args,
+            samples,
+            work0,
+            work1,
+            k,
+            from,
+            (m + 4) / 5,
+            &mut buf,
+        );
+        write_out(
+            extent,
+            dst,
+            table,
+            args,
+            samples,
+            work0,
+            work1,
+            checkpoint,
+            uses,
+            k,
+            from,
+            m,
+            &buf,
+        );
+    }
+}
