@@ -3,7 +3,7 @@
 Which table a change of the job's code has to touch:
 ITEMS: a file, a module, a function, a type or a constant. CALLS: a call, a `while` or a `match`. BODIES: anything in `store` or in `accepted`.
 LISTS, INPUTS, TYPES, NUMBERS: what the functions hand on to each other. GIVEN: an argument with another name than its parameter.
-READS, READS_LAST: a new way to read a list, an input, the extent or the counter. LENT: how a crate beneath the job lends a list. Other changes touch none."""
+READS, READS_LAST: a new way to read a list, an input, the extent or the count. LENT: how a crate beneath the job lends a list. Other changes touch none."""
 import os
 import re
 
@@ -39,7 +39,7 @@ CALLS = {
 }
 # What no body has: items, other loops, closures, macros, parts of lists.
 NOWHERE = "fn use mod const static type impl trait unsafe loop for move ref ghost requires ensures extern crate super self Self # | || && ! .. ..=".split()
-# The whole body of the function that writes, and of the one that makes the extent and begins the counter.
+# The whole body of the function that writes, and of the one that makes the extent and begins the count.
 BODIES = {
     "store": """
         match write {
@@ -61,8 +61,8 @@ INPUTS = {"dst": "& [ u32 ]", "table": "& [ i64 ]", "args": "& [ u32 ]", "sample
 TYPES = INPUTS | {"extent": "Extent", "uses": "& mut u64", "out": "& mut [ u32 ]"}
 NUMBERS = ("width", "height", "channels", "count", "allowance")
 # The arguments that have not their parameter's name, by function and parameter.
-GIVEN = {"run count": "layers", "writes uses": "& mut uses", "acceptance stores": "uses", "fill count": "( m + 4 ) / 5", "fill out": "& mut buf"}
-# How a body reads a list, the extent and the counter. The functions of other crates that write do so into the last argument; READS_LAST reads it.
+GIVEN = {"run count": "layers", "writes uses": "& mut uses", "acceptance stores": "uses", "fill count": "( n + 4 ) / 5", "fill out": "& mut buf"}
+# How a body reads a list, the extent and the count. The functions of other crates that write do so into the last argument; READS_LAST reads it.
 READS = re.compile(r"(?:work0|work1|checkpoint) (?:\[|\. len \( \)) |extent \. |(?<=\* )uses ")
 READS_LAST = "check"
 # What is lent to be changed beneath the job: `out`, in the last place but for `put`, and a list of the function's own.
@@ -91,7 +91,7 @@ def leads_to_store(name):
 
 # Each rule goes over one function. `own` has the names of the parameters of every function of the two crates. A fault is a place in the body and what is wrong.
 def parameters(function, _):
-    """What the functions hand on has its type. A list is lent to be changed on the way to `store` alone; of the rest the job lends the counter and `out`."""
+    """What the functions hand on has its type. A list is lent to be changed on the way to `store` alone; of the rest the job lends the count and `out`."""
     for name, kind in function.parameters:
         due = ("& mut " if leads_to_store(function.name) else "& ") + LISTS[name] if name in LISTS else TYPES.get(name)
         fine = kind == due if due else "/tray/" in function.source.path or re.fullmatch(r"\w+|& \[ \w+ \]", kind)
@@ -142,7 +142,7 @@ def assigns(function, own):
 
 
 def has(function, own):
-    """A list, an input, the extent and the counter are handed on or read, and nothing else. Another crate is handed an input, or a list that was lent to be
+    """A list, an input, the extent and the count are handed on or read, and nothing else. Another crate is handed an input, or a list that was lent to be
     read, and not in the last place. What a body itself lends to be changed it has bound."""
     known = {match.start() for match in READS.finditer(function.body)}
     readable = [*INPUTS] if leads_to_store(function.name) else [*INPUTS, *LISTS]

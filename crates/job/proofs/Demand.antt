@@ -1,6 +1,6 @@
 -- DEMAND 3, one theorem about a list of calls of any length: `demand-3`, at the end of this file. Its hypotheses are all there: a job whose call at
 -- position 0 has no fault, whatever its work buffers hold; and a list of calls in which those that are named as refused are refused. It rests on the
--- call's contract (specs/Call) and on the reference model (specs/Model) alone. Assumes nothing.
+-- call's contract (specs/Call), on what `store` asks (specs/Uses) and on the reference model (specs/Model) alone. Assumes nothing.
 use mathlib.Core.Path.{_≡_, refl, _∙_, ap, sym, subst}
 use mathlib.Core.Bool.{cond}
 use mathlib.Core.List.{List, [], _∷_}
@@ -13,7 +13,8 @@ use lib.Dec.{eqb}
 use lib.ListN.{length, take, drop, length-take}
 use lib.Seq.{ext-getD, take-all, take-take, take-length}
 use borrow.Author.Tests.{eq-eqb, ne-eqb}
-use Rattle.layers.specs.Inputs.{Inputs, jobFault}
+use Rattle.faults.specs.Faults.{NONE}
+use Rattle.layers.specs.Inputs.{Inputs}
 use Rattle.job.specs.declared.Answer.{Answer}
 use Rattle.job.specs.declared.Write.{Write}
 use Rattle.job.specs.Memory.{Mem, memOf, positionOf, stored, workOf}
@@ -27,7 +28,7 @@ use Rattle.job.proofs.Runs.{place-div}
 use Rattle.job.proofs.Parts.{start-midway}
 use Rattle.job.proofs.Sequence.{picture-length}
 use Rattle.job.proofs.Progress.{Progress, work-length, begun-again, left-length, Made, made}
-use Rattle.job.proofs.Checked.{some-pixel, call-inputs, call-midway, midway-call}
+use Rattle.job.proofs.Checked.{some-pixel, call-midway, midway-call}
 use Rattle.job.specs.Uses.{UsesFrom}
 use Rattle.job.proofs.Loans.{returned-same}
 use Rattle.job.proofs.Uses.{uses-are, uses-few}
@@ -55,8 +56,8 @@ call-still i n m h = rw (ne-eqb (callFault i m .number) 0 h)
 
 -- ---- the job's memory between calls
 
-module _ (i : Inputs) (fit : jobFault i .number ≡ 0) where
-  abbrev pub Ok : Mem → Type 0
+module _ (i : Inputs) where
+  abbrev Ok : Mem → Type 0
   Ok m = Progress i m (positionOf m)
 
   within : (m : Mem) → Ok m → positionOf m ≤ endOf i
@@ -186,7 +187,7 @@ module _ (i : Inputs) (fit : jobFault i .number ≡ 0) where
       ∙ gained n m v .call .position
       ∙ omega (arith, within m v)
 
-  -- the first n uses of a call leave what the model has for the call cut after n
+  -- the uses of a call are the model's entries, from the first on
   uses-ok : (m : Mem) (allowance : ℕ) (ws : List Write) → Ok m → UsesFrom i (positionOf m) (madeOf i allowance m) 0 m ws → ws ≡ take (length ws) (entriesOf i allowance m)
   uses-ok m n ws v u =
       let l = uses-few i m n ws u in
@@ -203,24 +204,21 @@ start-ok i work0 work1 e = record {
 -- after any number of writes, refused ones among them with whatever inputs and whatever lists, leaves and answers what the reference model says.
 pub demand-3 :
     (i : Inputs) (work0 work1 : List ℕ)
-    → callFault i (memOf work0 work1 (0 ∷ [])) .number ≡ 0
+    → callFault i (memOf work0 work1 (0 ∷ [])) .number ≡ NONE
     → (calls : List Call)
     → Fair i (memOf work0 work1 (0 ∷ [])) calls
     → Demand3 i (memOf work0 work1 (0 ∷ [])) calls
 demand-3 i work0 work1 e calls f = record {
-  same = histories i fit start calls ok f;
+  same = histories i start calls ok f;
   memory = memory;
-  finished = rw memory (finished-ok i fit after after-is);
-  earlier = rw memory (earlier-ok i fit after after-is);
-  gain = rw memory (λ n. gain-ok i fit after n after-is);
-  uses = rw memory (λ n ws. uses-ok i fit after n ws after-is);
+  finished = rw memory (finished-ok i after after-is);
+  earlier = rw memory (earlier-ok i after after-is);
+  gain = rw memory (λ n. gain-ok i after n after-is);
+  uses = rw memory (λ n ws. uses-ok i after n ws after-is);
 }
   where
     start : Mem
     start = memOf work0 work1 (0 ∷ [])
-
-    fit : jobFault i .number ≡ 0
-    fit = call-inputs i start e
 
     ok : Progress i start 0
     ok = start-ok i work0 work1 e
@@ -229,7 +227,7 @@ demand-3 i work0 work1 e calls f = record {
     after = memoryAfter (modelOf i) start calls
 
     memory : memoryAfter (programOf i) start calls ≡ after
-    memory = memories i fit start calls ok f
+    memory = memories i start calls ok f
 
     after-is : Progress i after (positionOf after)
-    after-is = after-ok i fit start calls ok
+    after-is = after-ok i start calls ok

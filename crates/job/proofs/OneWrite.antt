@@ -44,6 +44,12 @@ put-sized (Work1 at word) m z =
     record { works = record { length0 = z .works .length0; length1 = length-set (m .work1) at word ∙ z .works .length1 }; checkpoint = z .checkpoint }
 put-sized (Checkpoint position) m z = record { works = z .works; checkpoint = length-set (m .checkpoint) 0 position ∙ z .checkpoint }
 
+-- a list of writes, and one more
+pub stored-snoc : (ws : List Write) (w : Write) (m : Mem) → stored (ws ++ (w ∷ [])) m ≡ put w (stored ws m)
+unfolding stored
+stored-snoc [] w m = refl
+stored-snoc (x ∷ ws) w m = stored-snoc ws w (put x m)
+
 -- ---- a word of a picture, by the work buffer that it stands in
 
 module _ (at word : ℕ) (m : Mem) where
@@ -75,16 +81,10 @@ module _ (at word : ℕ) (m : Mem) where
   pub word-checkpoint : (k : ℕ) → put (wordWrite k at word) m .checkpoint ≡ m .checkpoint
   word-checkpoint k = checkpoint-by (eqb (k % 2) 0)
 
-  pub word-range : (k : ℕ) → at < length (m .work0) → at < length (m .work1) → InRange m (wordWrite k at word)
+  word-range : (k : ℕ) → at < length (m .work0) → at < length (m .work1) → InRange m (wordWrite k at word)
   word-range k = range-by (eqb (k % 2) 0)
 
 -- ---- the five writes of a pixel
-
--- one write more
-pub stored-snoc : (ws : List Write) (w : Write) (m : Mem) → stored (ws ++ (w ∷ [])) m ≡ put w (stored ws m)
-unfolding stored
-stored-snoc [] w m = refl
-stored-snoc (x ∷ ws) w m = stored-snoc ws w (put x m)
 
 -- write c of the five is channel c of the pixel
 pub word-at : (k j : ℕ) (w : Words) (q : ℕ) (d : Write) (c : ℕ) → c < 4 → getD (fiveWrites k j w q) c d ≡ wordWrite k (4 * j + c) (getD (w .r ∷ w .g ∷ w .b ∷ w .a ∷ []) c 0)

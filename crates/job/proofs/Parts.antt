@@ -46,7 +46,7 @@ module _ {i : Inputs} {start due u a u′ : ℕ} {m m′ : Mem} (f : Ran i start
   ran-midway h = rw (f .count, f .memory) (run-midway h a)
 
   -- a part after whole pixels of it
-  pub part-on : {k j n : ℕ} → Part i start due u k j n m → a % 5 ≡ 0 → (x b : ℕ) → j + a / 5 ≡ x → a + b ≤ n → Part i start due u′ k x b m′
+  part-on : {k j n : ℕ} → Part i start due u k j n m → a % 5 ≡ 0 → (x b : ℕ) → j + a / 5 ≡ x → a + b ≤ n → Part i start due u′ k x b m′
   part-on q z x b e h = record {
     midway = ran-midway (q .midway);
     fresh = omega (arith, f .count, q .fresh);
@@ -61,7 +61,7 @@ module _ {i : Inputs} {start due u a u′ : ℕ} {m m′ : Mem} (f : Ran i start
       ap (λ (y : Mem). pixelOf i y k x) (f .memory)
       ∙ under-pixel i k (runOf i (5 * start + u) a m) m x (run-under i start u a k j m (q .place) (omega (arith, q .inside, q .fresh)))
 
-  pub buffered-on : {k j n b c from : ℕ} {buf : List ℕ} → Part i start due u k j n m → a ≤ n → Buffered i k from b m buf → c ≤ b → Buffered i k from c m′ buf
+  buffered-on : {k j n b c from : ℕ} {buf : List ℕ} → Part i start due u k j n m → a ≤ n → Buffered i k from b m buf → c ≤ b → Buffered i k from c m′ buf
   buffered-on {from = from} q h w l = record {
     room = omega (arith, w .room);
     pixel = λ x o. w .pixel x (omega arith) ∙ sym (part-pixel q h (from + x));

@@ -74,14 +74,14 @@ module _ (i : Inputs) (m : Mem) (z : Sized i m) (p : ℕ) (room : p < endOf i) w
 
       is : entry c ≡ wordWrite k at word
       is =
-          sequence-five i p room pos c (Checkpoint 0) (omega arith)
+          sequence-five i p room c (Checkpoint 0) (omega arith)
           ∙ word-at k j (rgbaAt (pictureOf i k) 4 j) (p + 1) (Checkpoint 0) c h
           ∙ ap (wordWrite k at) (channel-at (pictureOf i k) j c h)
 
       right : take (4 * j + (c + 1)) (workOf k (put (wordWrite k at word) m)) ≡ take (4 * j + (c + 1)) (pictureOf i k)
       right =
           let e : 4 * j + (c + 1) ≡ suc at = omega arith in
-          let b = due-pixel i p room pos in
+          let b = due-pixel i p room in
           let w : at < length (workOf k m) = omega (arith, work-length i m k z) in
           let q : at < length (pictureOf i k) = omega (arith, picture-length i k) in
           rw (e, word-same at word m k)
@@ -93,10 +93,10 @@ module _ (i : Inputs) (m : Mem) (z : Sized i m) (p : ℕ) (room : p < endOf i) w
   -- the position
   entry-position : Here i m p 4 → Here i (put (entry 4) m) (p + 1) 0
   entry-position v =
-      rw is (next (⊎-elim (λ l. inr (omega (arith, due-pixel i p room pos))) (λ l. inl l) (le-or-lt n (j + 1))))
+      rw is (next (⊎-elim (λ l. inr (omega (arith, due-pixel i p room))) (λ l. inl l) (le-or-lt n (j + 1))))
     where
       is : entry 4 ≡ Checkpoint (p + 1)
-      is = sequence-five i p room pos 4 (Checkpoint 0) (omega arith)
+      is = sequence-five i p room 4 (Checkpoint 0) (omega arith)
 
       whole : j + 1 ≡ n → workOf k m ≡ pictureOf i k
       whole e =
@@ -118,7 +118,7 @@ module _ (i : Inputs) (m : Mem) (z : Sized i m) (p : ℕ) (room : p < endOf i) w
           record { right = rw (place-mod n (p + 1) (suc k) 0 e pos) refl; below = rw d (λ b y. let x : b ≡ k = omega arith in rw x (whole q)) })
 
   -- either, by the number of the write
-  pub entry-here : (c : ℕ) → c < 5 → Here i m p c → Here i (put (entry c) m) (p + (c + 1) / 5) ((c + 1) % 5)
+  entry-here : (c : ℕ) → c < 5 → Here i m p c → Here i (put (entry c) m) (p + (c + 1) / 5) ((c + 1) % 5)
   entry-here c h v =
       ⊎-elim
       (λ l.
@@ -155,7 +155,7 @@ pub write-next : (i : Inputs) (r : Mem) (p t : ℕ) → suc t ≤ 5 * (endOf i -
 write-next i r p t h v =
     let q = p + t / 5 in
     let room : q < endOf i = omega arith in
-    write-right i q room (some-pixel i q room) r (5 * p + t) (omega arith) (v (some-pixel i q room) .below)
+    write-right i q room r (5 * p + t) (omega arith) (v (some-pixel i q room) .below)
 
 made-next : (i : Inputs) (m : Mem) (p t : ℕ) → suc t ≤ 5 * (endOf i - p) → Progress i m p → Made i m p t → Made i m p (suc t)
 unfolding runOf

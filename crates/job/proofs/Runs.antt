@@ -54,7 +54,7 @@ under-pixel i (suc k) m m′ j h =
     ap (λ (l : List ℕ). composedAt (i .samples) (layerAt (i .table) (i .args) k) (natOf (i .width)) (natOf (i .height)) (rgbaAt l 4) j) (h k refl)
 
 -- a write of phase k leaves it
-pub under-write : (k j : ℕ) (w : Words) (q c : ℕ) (m : Mem) → Under k (put (getD (fiveWrites k j w q) c (Checkpoint 0)) m) m
+under-write : (k j : ℕ) (w : Words) (q c : ℕ) (m : Mem) → Under k (put (getD (fiveWrites k j w q) c (Checkpoint 0)) m) m
 under-write k j w q c m b e =
     subst (λ (x : ℕ). workOf b (put (getD (fiveWrites x j w q) c (Checkpoint 0)) m) ≡ workOf b m) e (five-other b j w q c m)
 

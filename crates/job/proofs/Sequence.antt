@@ -2,7 +2,7 @@
 use mathlib.Core.Path.{_≡_, refl, _∙_, ap, sym}
 use mathlib.Core.List.{List, [], append-nil}
 use Prim.Native.Nat.{ℕ, zero, suc, _+_, _*_, _/_, _%_, _<_}
-use native.Mathlib.Nat.{zero-add, mul-comm, mul-assoc, mod-lt, div-add-mod', div-lt-iff-lt-mul}
+use native.Mathlib.Nat.{zero-add, mul-comm, mul-assoc, mod-lt, div-add-mod'}
 use native.Mathlib.Omega.{arith}
 use lib.ListN.{length, getD}
 use Rattle.layers.specs.Cells.{natOf}
@@ -11,7 +11,7 @@ use Rattle.layers.specs.Layers.{layerAt}
 use Rattle.pictures.specs.declared.Words.{Words}
 use Rattle.pictures.specs.Widen.{rgbaAt}
 use Rattle.pictures.specs.FlatWords.{flat}
-use Rattle.pictures.proofs.FlatWords.{length-flat}
+use Rattle.pictures.proofs.FlatWords.{length-flat, flat-pixel}
 use Rattle.compose.specs.Compose.{composedAt}
 use Rattle.job.specs.declared.Write.{Write}
 use Rattle.job.specs.declared.Write.the-variants.{Checkpoint}
@@ -19,8 +19,8 @@ use Rattle.job.specs.Memory.{Mem, workOf, fiveWrites}
 use Rattle.job.specs.Job.{pixelCount, layerCount, endOf}
 use Rattle.job.specs.Call.{pixelOf, writeAt}
 use Rattle.job.specs.Model.{pictureOf, pictureWrites, writeSequence}
+use Rattle.job.proofs.Checked.{some-pixel, phase-within}
 use Rattle.job.proofs.Blocks.{length-blocks, getD-blocks}
-use Rattle.pictures.proofs.FlatWords.{flat-pixel}
 
 -- ---- the pictures
 
@@ -33,7 +33,7 @@ whole-pixel : (f : ℕ → Words) (n j : ℕ) → j < n → rgbaAt (flat f 0 n) 
 whole-pixel f n j h = ap (λ (l : List ℕ). rgbaAt l 4 j) (sym (append-nil (flat f 0 n))) ∙ flat-pixel f 0 n [] j h ∙ ap f (zero-add j)
 
 -- Where the picture beneath is the model's, the pixel that a call works out is the model's.
-pub pixel-right : (i : Inputs) (m : Mem) (k j : ℕ) → j < pixelCount i → ((b : ℕ) → suc b ≡ k → workOf b m ≡ pictureOf i b)
+pixel-right : (i : Inputs) (m : Mem) (k j : ℕ) → j < pixelCount i → ((b : ℕ) → suc b ≡ k → workOf b m ≡ pictureOf i b)
     → pixelOf i m k j ≡ rgbaAt (pictureOf i k) 4 j
 unfolding pixelOf pictureOf
 pixel-right i m zero j h below = sym (whole-pixel _ (pixelCount i) j h)
@@ -68,13 +68,10 @@ sequence-at i k j c d hk hj hc =
     ∙ getD-blocks (λ x. fiveWrites k x (rgbaAt (pictureOf i k) 4 x) (k * n + x + 1)) 5 (λ x. refl) d n 0 j c hj hc
     ∙ ap (λ (x : ℕ). getD (fiveWrites k x (rgbaAt (pictureOf i k) 4 x) (k * n + x + 1)) c d) (zero-add j)
 
-module _ (i : Inputs) (p : ℕ) (room : p < endOf i) (pos : 0 < pixelCount i) where
-  -- the phase and the pixel of a position before the end
-  pub due-phase : p / pixelCount i < layerCount i + 1
-  due-phase = div-lt-iff-lt-mul pos .1 room
-
+module _ (i : Inputs) (p : ℕ) (room : p < endOf i) where
+  -- the pixel of a position before the end
   pub due-pixel : p % pixelCount i < pixelCount i
-  due-pixel = mod-lt p pos
+  due-pixel = mod-lt p (some-pixel i p room)
 
   -- the five writes of a position
   pub sequence-five : (c : ℕ) (d : Write) → c < 5
@@ -83,7 +80,7 @@ module _ (i : Inputs) (p : ℕ) (room : p < endOf i) (pos : 0 < pixelCount i) wh
   sequence-five c d h =
       let e = div-add-mod' p (pixelCount i) in
       ap (λ (x : ℕ). getD (writeSequence i) (5 * x + c) d) (sym e)
-      ∙ sequence-at i (p / pixelCount i) (p % pixelCount i) c d due-phase due-pixel h
+      ∙ sequence-at i (p / pixelCount i) (p % pixelCount i) c d (omega (arith, phase-within i p room)) due-pixel h
       ∙ ap (λ (x : ℕ). getD (fiveWrites (p / pixelCount i) (p % pixelCount i) (rgbaAt (pictureOf i (p / pixelCount i)) 4 (p % pixelCount i)) (x + 1)) c d) e
 
   -- Where the picture beneath is the model's, the write that a call makes is the model's.

@@ -81,8 +81,8 @@ pub record Demand3 (i : Inputs) (start : Mem) (calls : List Call) : Type 0 where
       (n : ℕ)
       → positionOf (callOf i n (memoryAfter (programOf i) start calls) .mem)
       ≡ min (positionOf (memoryAfter (programOf i) start calls) + n / 5) (endOf i)
-  -- and its uses of `store`, as the contract of `store` allows them one after the other, are the model's entries
+  -- and its uses of `store`, one after the other as the contract of `store` allows them, are the model's entries, from the first on
   pub uses :
       (n : ℕ) (ws : List Write)
-      → (let m = memoryAfter (programOf i) start calls in UsesFrom i (positionOf m) (madeOf i n m) 0 m ws)
-      → ws ≡ take (length ws) (entriesOf i n (memoryAfter (programOf i) start calls))
+      → let m = memoryAfter (programOf i) start calls in
+      UsesFrom i (positionOf m) (madeOf i n m) 0 m ws → ws ≡ take (length ws) (entriesOf i n m)

@@ -45,7 +45,7 @@ putBack (ofCheckpoint first count) xs m = memOf (m .work0) (m .work1) (withPart 
 putBack (other ys) xs m = m
 
 -- The job's memory once a call has left what it was lent as `after`: the places are put back one after the other. The type also has loans in which two
--- places are lent the same numbers, which a host may not make (include/tray.h); of these the place that is put back last counts. It is asked of refused
--- calls alone, which change none, so that all of them are put back as they were.
+-- places are lent the same numbers, which a host may not make (include/tray.h); of these the place that is put back last counts. `returned` is asked of
+-- refused calls alone, which change none of their numbers, so that all of them are put back as they were.
 abbrev pub returned : Loan → Mem → (after : Mem) → Mem
 returned l m after = putBack (l .checkpoint) (after .checkpoint) (putBack (l .work1) (after .work1) (putBack (l .work0) (after .work0) m))

@@ -16,7 +16,7 @@ mostPosition = 4611686018427387904
 
 -- ---- the state of a call
 
--- both work buffers hold a picture of so many pixels
+-- both work buffers have the length of a picture of so many pixels
 pub record Works (pixels : ℕ) (work0 work1 : List ℕ) : Type 0 where
   pub length0 : length work0 ≡ 4 * pixels
   pub length1 : length work1 ≡ 4 * pixels
@@ -26,7 +26,8 @@ pub record Sized (i : Inputs) (m : Mem) : Type 0 where
   pub works : Works (pixelCount i) (m .work0) (m .work1)
   pub checkpoint : length (m .checkpoint) ≡ 1
 
--- A call of a job without a fault, which found the position `start` and makes `due` writes, has made `uses` of them.
+-- A call of a job whose inputs have no fault, which found the position `start` and makes `due` writes, none past the job's end, and has counted `uses` of
+-- them: the lists have their lengths, and the position is where the count says.
 pub record Midway (i : Inputs) (start due uses : ℕ) (m : Mem) : Type 0 where
   pub fit : jobFault i .number ≡ NONE
   pub sized : Sized i m

@@ -29,8 +29,8 @@ fn write_of(k: usize, j: usize, buf: &[u32], x: usize, c: usize, position: u64) 
     Write::Work1 { at, word }
 }
 
-// The first n writes of pixel x of the buffer, which is pixel from + x of picture k. The position is read back from the checkpoint after alpha's write,
-// so that the compiled writes keep their order.
+// The first n writes of pixel x of the buffer, which is pixel from + x of picture k. The position is read from the checkpoint before each write, so also
+// after alpha's: that keeps the compiled writes in their order.
 fn pixel(
     extent: Extent,
     dst: &[u32],

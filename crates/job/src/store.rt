@@ -6,7 +6,7 @@ ghost use Rattle.job.specs.Uses.{inputsBy, NextUse};
 use crate::Extent;
 use crate::Write;
 
-// It changes the one number that the write names. The write has to be the next one of the call that the other arguments say: its inputs, the position
+// It changes the one number that the write names. The write has to be the next one of the call that the other arguments describe: its inputs, the position
 // that it found and the writes that it makes, and `uses`, those that it has made. The inputs stand here for the contract alone; `uses` is begun at 0 by
 // the call, raised here and nowhere else, and is what the call answers.
 pub fn store(

@@ -10,8 +10,8 @@ use crate::fill::fill;
 use crate::pixel::write_out;
 use compose::run::least;
 
-// The writes of the pixels that are composed at a time, 128: enough that decoding their layer each time counts for little, few enough that clearing the
-// buffer does not in a short call.
+// Pixels are composed 128 at a time: SPAN is their writes, five each, and the buffer has their words, four each. With fewer, decoding their layer each
+// time would cost more; with more, clearing the buffer would cost more in a short call.
 const SPAN: usize = 640;
 
 // The writes that are due, from the position `start` on.
@@ -38,14 +38,14 @@ pub fn writes(
         × (now (uses .exit) ≡ extent .due)
         ⌝ }
 {
-    let n = extent.width * extent.height;
+    let pixels = extent.width * extent.height;
     let mut buf = [0u32; 512];
     while (*uses as usize) < extent.due {
         let done = *uses as usize;
         let at = extent.start + done / 5;
-        let k = at / n;
-        let from = at % n;
-        let m = least(SPAN, least(extent.due - done, 5 * (n - from)));
+        let k = at / pixels;
+        let from = at % pixels;
+        let n = least(SPAN, least(extent.due - done, 5 * (pixels - from)));
         fill(
             extent,
             dst,
@@ -56,7 +56,7 @@ pub fn writes(
             work1,
             k,
             from,
-            (m + 4) / 5,
+            (n + 4) / 5,
             &mut buf,
         );
         write_out(
@@ -71,7 +71,7 @@ pub fn writes(
             uses,
             k,
             from,
-            m,
+            n,
             &buf,
         );
     }

@@ -24,14 +24,14 @@ abbrev μ-loop : tie.MeasureT-loop
 abbrev start : tie.At-loop Inv-loop μ-loop → tie.Start Inv-loop μ-loop
 start c = c .before .before .before .before .before .before .before .before
 
-abbrev turn : tie.After-write-of Inv-loop μ-loop → tie.In-loop Inv-loop μ-loop
-turn c = c .before .before
+abbrev pass : tie.After-write-of Inv-loop μ-loop → tie.In-loop Inv-loop μ-loop
+pass c = c .before .before
 
 abbrev written : tie.After-store Inv-loop μ-loop → tie.After-write-of Inv-loop μ-loop
 written c = c .before .before .before .before .before
 
-abbrev stored : tie.After-slice-known7 Inv-loop μ-loop → tie.After-store Inv-loop μ-loop
-stored c = c .before .before .before .before .before .before
+abbrev used : tie.After-slice-known7 Inv-loop μ-loop → tie.After-store Inv-loop μ-loop
+used c = c .before .before .before .before .before .before
 
 abbrev found : tie.At-loop Inv-loop μ-loop → Mem
 found c = memOf (c .loop .work0) (c .loop .work1) (c .loop .checkpoint)
@@ -67,11 +67,11 @@ write-of-requires c κs =
     (omega (arith, s .pre .2, l .loop-test), λ h. omega (arith, s .pre .1 .room, l .loop-test), b .0, b .1)
 
 -- the call's next write
-next : (c : tie.After-write-of Inv-loop μ-loop) → let l = turn c .before in let s = start l in NextUse (inputs s) (s .args .extent .start) (s .args .extent .due) (l .loop .uses) (found l) (c .write-of .result)
+next : (c : tie.After-write-of Inv-loop μ-loop) → let l = pass c .before in let s = start l in NextUse (inputs s) (s .args .extent .start) (s .args .extent .due) (l .loop .uses) (found l) (c .write-of .result)
 next c =
-    let l = turn c .before in
+    let l = pass c .before in
     let s = start l in
-    let t = turn c .loop-test .taken in
+    let t = pass c .loop-test .taken in
     use-next _ (l .loop .c) _ (s .pre .0) (s .pre .2) t (l .loop .inv .1) (s .pre .1 .pixel (s .args .x) (omega (arith, t))) (c .write-of .ensures)
 
 store-requires : tie.Need-store-requires Inv-loop μ-loop
@@ -79,9 +79,9 @@ store-requires c κs = next (c .before .before .before .before)
 
 loop-again : tie.Need-loop-again Inv-loop μ-loop
 loop-again c =
-    let d = stored c in
+    let d = used c in
     let w = written d in
-    (omega (arith, turn w .loop-test), ran-on _ refl (turn w .before .loop .inv .1) (use-ran (next w) (d .store .ensures)))
+    (omega (arith, pass w .loop-test), ran-on _ refl (pass w .before .loop .inv .1) (use-ran (next w) (d .store .ensures)))
 
 returns : tie.Need-returns Inv-loop μ-loop
 returns c = let v = c .before .loop .inv in ran-as _ (omega (arith, v .0)) (v .1)
@@ -97,8 +97,8 @@ pixel-spec =
     (λ c. omega (arith, sized (c .before .before) .checkpoint))
     write-of-requires
     store-requires
-    (λ c. omega (arith, turn (written (stored c)) .loop-test, start (turn (written (stored c)) .before) .pre .2))
-    (λ c. omega (arith, turn (written (stored c)) .loop-test))
+    (λ c. omega (arith, pass (written (used c)) .loop-test, start (pass (written (used c)) .before) .pre .2))
+    (λ c. omega (arith, pass (written (used c)) .loop-test))
     loop-again
     (λ c. still0 (start (c .before) .pre .0 .midway .sized) (sized (c .before)))
     (λ c. still1 (start (c .before) .pre .0 .midway .sized) (sized (c .before)))

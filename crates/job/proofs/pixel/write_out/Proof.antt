@@ -22,11 +22,14 @@ abbrev μ-loop : tie.MeasureT-loop
 abbrev start : tie.At-loop Inv-loop μ-loop → tie.Start Inv-loop μ-loop
 start c = c .before .before .before .before .before .before .before .before
 
-abbrev turn : tie.After-pixel Inv-loop μ-loop → tie.In-loop Inv-loop μ-loop
-turn c = c .before .before .before .before .before
+abbrev pass : tie.After-pixel Inv-loop μ-loop → tie.In-loop Inv-loop μ-loop
+pass c = c .before .before .before .before .before
 
 abbrev end : tie.After-pixel2 Inv-loop μ-loop → tie.After-loop Inv-loop μ-loop
 end c = c .before .before .before .before .before
+
+abbrev begun : (c : tie.After-slice-known9 Inv-loop μ-loop) → tie.Start Inv-loop μ-loop
+begun c = start (end (c .before .before .before .before .before .before) .before)
 
 -- ---- the needs
 
@@ -39,7 +42,7 @@ pixel-requires c κs =
 loop-again : tie.Need-loop-again Inv-loop μ-loop
 loop-again c =
     let d = c .before .before .before .before .before .before in
-    (omega (arith, turn d .loop-test), ran-on _ (omega arith) (turn d .before .loop .inv .1) (d .pixel .ensures))
+    (omega (arith, pass d .loop-test), ran-on _ (omega arith) (pass d .before .loop .inv .1) (d .pixel .ensures))
 
 pixel-requires-2 : tie.Need-pixel-requires-2 Inv-loop μ-loop
 pixel-requires-2 c κs =
@@ -54,10 +57,6 @@ returns c =
     let v = end d .before .loop .inv in
     ran-on _ (omega (arith, v .0, end d .loop-test)) (v .1) (d .pixel2 .ensures)
 
--- so the lists have kept their lengths
-abbrev begun : (c : tie.After-slice-known9 Inv-loop μ-loop) → tie.Start Inv-loop μ-loop
-begun c = start (end (c .before .before .before .before .before .before) .before)
-
 pub write-out-spec : {M : Type 1} → statement M
 write-out-spec =
     tie.close
@@ -66,8 +65,8 @@ write-out-spec =
     μ-loop
     (λ c. (omega arith, ran-none _ _ _ _))
     pixel-requires
-    (λ c. let t = turn (c .before .before .before .before .before .before) in omega (arith, t .loop-test, start (t .before) .fits .n))
-    (λ c. omega (arith, turn (c .before .before .before .before .before .before) .loop-test))
+    (λ c. let t = pass (c .before .before .before .before .before .before) in omega (arith, t .loop-test, start (t .before) .fits .n))
+    (λ c. omega (arith, pass (c .before .before .before .before .before .before) .loop-test))
     loop-again
     pixel-requires-2
     (λ c. let m = begun c .pre .0 .midway in still0 (m .sized) (ran-midway (returns c) m .sized))

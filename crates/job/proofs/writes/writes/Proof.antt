@@ -21,22 +21,22 @@ use Rattle.job.proofs.writes.writes.Statement.{statement}
 use Rattle.job.proofs.writes.writes.Tie as tie
 
 abbrev Inv-loop : tie.InvT-loop
-Inv-loop extent dst table args samples work0₀ work1₀ checkpoint₀ uses₀ n buf₀ work0 work1 checkpoint uses buf =
+Inv-loop extent dst table args samples work0₀ work1₀ checkpoint₀ uses₀ pixels buf₀ work0 work1 checkpoint uses buf =
     (uses ≤ extent .due)
     × (uses < extent .due → uses % 5 ≡ 0)
     × (memOf work0 work1 checkpoint ≡ runOf (inputsBy extent dst table args samples) (5 * extent .start) uses (memOf work0₀ work1₀ checkpoint₀))
     × (length buf ≡ 512)
 
 abbrev μ-loop : tie.MeasureT-loop
-μ-loop extent dst table args samples work0₀ work1₀ checkpoint₀ uses₀ n buf₀ work0 work1 checkpoint uses buf = extent .due - uses
+μ-loop extent dst table args samples work0₀ work1₀ checkpoint₀ uses₀ pixels buf₀ work0 work1 checkpoint uses buf = extent .due - uses
 
 -- ---- places of the code
 
 abbrev start : tie.At-loop Inv-loop μ-loop → tie.Start Inv-loop μ-loop
 start c = c .before .before .before .before .before .before .before .before
 
-abbrev turn : tie.Then1 Inv-loop μ-loop → tie.At-loop Inv-loop μ-loop
-turn c = c .before .before
+abbrev pass : tie.Then1 Inv-loop μ-loop → tie.At-loop Inv-loop μ-loop
+pass c = c .before .before
 
 abbrev split : tie.After-struct-known4 Inv-loop μ-loop → tie.Then1 Inv-loop μ-loop
 split c = c .before .before .before
@@ -44,8 +44,8 @@ split c = c .before .before .before
 abbrev counted : tie.After-least2 Inv-loop μ-loop → tie.Then1 Inv-loop μ-loop
 counted c = split (c .before .before)
 
-abbrev filled : tie.After-fill Inv-loop μ-loop → tie.After-least2 Inv-loop μ-loop
-filled c = c .before .before .before .before
+abbrev composed : tie.After-fill Inv-loop μ-loop → tie.After-least2 Inv-loop μ-loop
+composed c = c .before .before .before .before
 
 abbrev written : tie.After-write-out Inv-loop μ-loop → tie.After-fill Inv-loop μ-loop
 written c = c .before .before .before .before .before .before .before
@@ -66,19 +66,19 @@ midway : (c : tie.At-loop Inv-loop μ-loop) → let s = start c in Midway (input
 midway c = start-midway (start c .pre .1) (start c .pre .0) (c .loop .inv .2)
 
 -- the position is before the end
-before : (c : tie.Then1 Inv-loop μ-loop) → let s = start (turn c) in s .args .extent .start + turn c .loop .uses / 5 < endOf (inputs s)
-before c = omega (arith, midway (turn c) .within, c .if1 .taken)
+room : (c : tie.Then1 Inv-loop μ-loop) → let s = start (pass c) in s .args .extent .start + pass c .loop .uses / 5 < endOf (inputs s)
+room c = omega (arith, midway (pass c) .within, c .if1 .taken)
 
-some : (c : tie.Then1 Inv-loop μ-loop) → let e = start (turn c) .args .extent in 0 < e .width * e .height
+some : (c : tie.Then1 Inv-loop μ-loop) → let e = start (pass c) .args .extent in 0 < e .width * e .height
 unfolding natOf
-some c = some-pixel (inputs (start (turn c))) _ (before c)
+some c = some-pixel (inputs (start (pass c))) _ (room c)
 
 -- the span that is next
-next : (c : tie.After-least2 Inv-loop μ-loop) → let l = turn (counted c) in let s = start l in Span (inputs s) (s .args .extent .start) (s .args .extent .due) (l .loop .uses) (c .least2 .result) (found l)
+next : (c : tie.After-least2 Inv-loop μ-loop) → let l = pass (counted c) in let s = start l in Span (inputs s) (s .args .extent .start) (s .args .extent .due) (l .loop .uses) (c .least2 .result) (found l)
 unfolding natOf
 next c =
     let t = counted c in
-    span (midway (turn t)) (turn t .loop .inv .1 (t .if1 .taken)) (t .if1 .taken) (c .before .least .ensures) (c .least2 .ensures)
+    span (midway (pass t)) (pass t .loop .inv .1 (t .if1 .taken)) (t .if1 .taken) (c .before .least .ensures) (c .least2 .ensures)
 
 loop-holds : tie.Need-loop-holds Inv-loop μ-loop
 unfolding runOf
@@ -90,32 +90,32 @@ fill-requires : tie.Need-fill-requires Inv-loop μ-loop
 unfolding natOf
 fill-requires c κs =
     let d = c .before .before .before in
-    (next d .fillable, omega (arith, next d .most, turn (counted d) .loop .inv .3))
+    (next d .fillable, omega (arith, next d .most, pass (counted d) .loop .inv .3))
 
 -- the buffer has kept its length
 kept : (c : tie.After-fill Inv-loop μ-loop) → length (c .fill .last .1 .1 .1 .1 .1 .1 .1 .1 .1 .1 .0) ≡ 512
-kept c = c .fill .kept .1 .1 .1 .1 .1 .1 .1 .1 .1 .1 .0 ∙ turn (counted (filled c)) .loop .inv .3
+kept c = c .fill .kept .1 .1 .1 .1 .1 .1 .1 .1 .1 .1 .0 ∙ pass (counted (composed c)) .loop .inv .3
 
 write-out-requires : tie.Need-write-out-requires Inv-loop μ-loop
 unfolding natOf
 write-out-requires c κs =
     let f = c .before .before .before .before .before .before in
-    let d = filled f in
-    (next d .part, buffered _ _ _ _ (found (turn (counted d))) _ _ (omega (arith, kept f, next d .most)) (f .fill .ensures))
+    let d = composed f in
+    (next d .part, buffered _ _ _ _ (found (pass (counted d))) _ _ (omega (arith, kept f, next d .most)) (f .fill .ensures))
 
 loop-less : tie.Need-loop-less Inv-loop μ-loop
 loop-less c =
     let w = c .before .before .before .before .before .before in
-    let n = next (filled (written w)) in
+    let n = next (composed (written w)) in
     omega (arith, n .some, n .part .left, w .write-out .ensures .count)
 
 loop-again : tie.Need-loop-again Inv-loop μ-loop
 loop-again c =
     let w = c .before .before .before .before .before .before in
-    let d = filled (written w) in
+    let d = composed (written w) in
     let n = next d in
     let e = w .write-out .ensures in
-    (omega (arith, n .part .left, e .count), n .whole _ (e .count), start-on _ (turn (counted d) .loop .inv .2) e, kept (written w))
+    (omega (arith, n .part .left, e .count), n .whole _ (e .count), start-on _ (pass (counted d) .loop .inv .2) e, kept (written w))
 
 returns : tie.Need-returns Inv-loop μ-loop
 returns c = let v = c .before .before .loop .inv in (v .2, omega (arith, v .0, c .if1 .left))
@@ -128,16 +128,16 @@ writes-spec =
     μ-loop
     (λ c. omega (arith, small (c .before .before .before .before .before .before .before)))
     loop-holds
-    (λ c. let t = c .before .before in omega (arith, before t, end-small _ (midway (turn t) .fit)))
+    (λ c. let t = c .before .before in omega (arith, room t, end-small _ (midway (pass t) .fit)))
     (λ c. some (c .before .before))
     (λ c. some (c .before .before))
     (λ c. omega (arith, split c .if1 .taken))
-    (λ c. let l = turn (split c) in omega (arith, mod-lt (start l .args .extent .start + l .loop .uses / 5) (some (split c))))
-    (λ c. omega (arith, small (start (turn (split c)))))
+    (λ c. let l = pass (split c) in omega (arith, mod-lt (start l .args .extent .start + l .loop .uses / 5) (some (split c))))
+    (λ c. omega (arith, small (start (pass (split c)))))
     (λ c κs. tt)
     (λ c κs. tt)
     (λ c. omega (arith, next (c .before .before) .most))
-    (λ c. sym (turn (counted (c .before .before .before)) .loop .inv .3))
+    (λ c. sym (pass (counted (c .before .before .before)) .loop .inv .3))
     fill-requires
     (λ c. sym (kept (c .before .before .before .before .before .before)))
     write-out-requires
