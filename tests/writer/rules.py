@@ -24,8 +24,8 @@ ITEMS = {
 CALLS = {
     "tray_job": "job::call::run flag",
     "run": "fault accepted",
-    "accepted": "natural natural natural natural least writes acceptance",
-    "writes": "while least least fill write_out",
+    "accepted": "natural natural natural natural min writes acceptance",
+    "writes": "while min min fill write_out",
     "write_out": "while pixel pixel",
     "pixel": "while write_of store",
     "store": "match",
@@ -50,7 +50,7 @@ BODIES = {
     "accepted": """
         let w = natural(width); let h = natural(height); let layers = natural(count);
         let end = (layers + 1) * (w * h); let start = checkpoint[0] as usize; let left = 5 * (end - start);
-        let extent = Extent { width: w, height: h, channels: natural(channels), layers, start, due: least(allowance as usize, left), };
+        let extent = Extent { width: w, height: h, channels: natural(channels), layers, start, due: min(allowance as usize, left), };
         let mut uses = 0u64;
         writes(extent, dst, table, args, samples, work0, work1, checkpoint, &mut uses,);
         acceptance(uses, checkpoint[0], end as u64)""",

@@ -7,18 +7,18 @@ use borrow.Author.Tests.{eq-eqb, ne-eqb}
 use Rattle.layers.specs.Cells.{natOf}
 use Rattle.layers.specs.declared.Verdict.{Verdict}
 use Rattle.layers.specs.Inputs.{Inputs, jobFault}
-use Rattle.compose.specs.Single.{answered, pictureOf, composeOf}
+use Rattle.compose.specs.Single.{composed, outputOf, composeOf}
 
 module _ (i : Inputs) (out : List ℕ) (v : Verdict) (e : v ≡ jobFault i) where
-  pub refused : (v .number ≡ 0 → ⊥) → answered (v .number) out ≡ composeOf i out
+  pub refused : (v .number ≡ 0 → ⊥) → composed (v .number) out ≡ composeOf i out
   unfolding composeOf
   refused h = rw (← e, ne-eqb (v .number) 0 h)
 
   module _ (h : v .number ≡ 0) where
-    pub unfit : (length out ≡ 4 * (natOf (i .width) * natOf (i .height)) → ⊥) → answered 9 out ≡ composeOf i out
+    pub unfit : (length out ≡ 4 * (natOf (i .width) * natOf (i .height)) → ⊥) → composed 9 out ≡ composeOf i out
     unfolding composeOf
     unfit l = rw (← e, eq-eqb (v .number) 0 h, ne-eqb (length out) _ l)
 
-    pub composed : (after : List ℕ) → length out ≡ 4 * (natOf (i .width) * natOf (i .height)) → after ≡ pictureOf i → answered 0 after ≡ composeOf i out
+    pub laid-out : (after : List ℕ) → length out ≡ 4 * (natOf (i .width) * natOf (i .height)) → after ≡ outputOf i → composed 0 after ≡ composeOf i out
     unfolding composeOf
-    composed after l p = rw (← e, eq-eqb (v .number) 0 h, eq-eqb (length out) _ l, p)
+    laid-out after l p = rw (← e, eq-eqb (v .number) 0 h, eq-eqb (length out) _ l, p)

@@ -5,11 +5,11 @@ use Prim.Native.Nat.{ℕ, zero, suc, _+_, _*_, _/_, _%_, _<_, _≤_}
 use native.Mathlib.Nat.{zero-mul, mul-zero, mod-lt, mod-self, div-self, mod-eq-of-lt, div-eq-of-lt, add-zero, div-add-mod', mul-add-div-right, mul-add-mod-self-right, div-lt-iff-lt-mul, mul-comm, mul-le-mul, mul-le-mul-left}
 use native.Mathlib.Omega.{arith}
 use Rattle.places.specs.Bounds.{slack, Reached, Under}
-use Rattle.places.specs.Spots.{sourceIndex}
+use Rattle.places.specs.Indices.{sourceIndex}
 use Rattle.places.specs.declared.Corner.{Corner}
-use Rattle.places.specs.declared.Spot.{Spot}
-use Rattle.places.specs.declared.Spot.the-variants.{At, Off}
-use Rattle.places.proofs.Spots.{index-below}
+use Rattle.places.specs.declared.Index.{Index}
+use Rattle.places.specs.declared.Index.the-variants.{At, Off}
+use Rattle.places.proofs.Indices.{index-below}
 use Rattle.compose.specs.declared.Plan.{Plan}
 use Rattle.compose.specs.Ready.{Ready, Beneath, Run}
 
@@ -65,10 +65,10 @@ reached p source picture channels j r b = record {
   row = omega (arith, row-below (p .dw) (p .dh) j (b .inside), b .picture .height);
 }
 
--- a spot that was found lies below the source's pixels
-pub spot-held : (tile : Bool) (sw sh : ℕ) (corner : Corner) (x y : ℕ) (s : Spot) → s ≡ sourceIndex tile sw sh corner x y → Under (sw * sh) s
-spot-held tile sw sh corner x y (At n) e = index-below tile sw sh corner x y n (sym e)
-spot-held tile sw sh corner x y Off e = tt
+-- an index that was found lies below the source's pixels
+pub axis-held : (tile : Bool) (sw sh : ℕ) (corner : Corner) (x y : ℕ) (s : Index) → s ≡ sourceIndex tile sw sh corner x y → Under (sw * sh) s
+axis-held tile sw sh corner x y (At n) e = index-below tile sw sh corner x y n (sym e)
+axis-held tile sw sh corner x y Off e = tt
 
 -- pixel i of a run
 pub at-run : (p : Plan) (picture channels from count i : ℕ) → Run p picture channels from count → i < count → Beneath p picture channels (from + i)

@@ -6,7 +6,7 @@ use Prim.Native.Nat.{ℕ, _+_, _*_, _≤_}
 use native.Mathlib.Nat.{mul-le-mul}
 use native.Mathlib.Omega.{arith}
 use lib.Ieee.{Float}
-use Rattle.operators.specs.Operators.{same}
+use Rattle.operators.specs.Operators.{sameOp}
 use Rattle.operators.specs.declared.CompositeOp.the-variants as O
 use Rattle.places.specs.Bounds.{slack, Measured}
 use Rattle.places.proofs.Anchors.{corner-x, corner-y}
@@ -37,7 +37,7 @@ chosen false false f x y x′ y′ r = refl
 module _ (l : Layer) (dw dh : ℕ) where
   result : (beneath : ℕ → Rgba) (s d : Rgba) (j : ℕ) → resultBy (planOf l dw dh) beneath s d j ≡ resultOf l dw dh beneath s d j
   unfolding planOf mapCoordinate resultBy resultOf
-  result beneath s d j = chosen (same (l .op) O.Displace) (same (l .op) O.Distort) (bilinearOf beneath dw dh) _ _ _ _ _
+  result beneath s d j = chosen (sameOp (l .op) O.Displace) (sameOp (l .op) O.Distort) (bilinearOf beneath dw dh) _ _ _ _ _
 
   composes : (samples : List ℕ) (beneath : ℕ → Words) (j : ℕ)
       → composedBy (planOf l dw dh) (sourceOf samples (l .source)) (λ i. valuesOf (beneath i)) (beneath j) j ≡ composedAt samples l dw dh beneath j

@@ -11,7 +11,7 @@ use Rattle.float_steps.specs.Notation.{_⊖_, _⊗_, _⊘_, f0, f1}
 use Rattle.float_steps.specs.Literals.{f20, f50, f100, twentieth}
 use Rattle.float_steps.specs.Order.{finiteOf}
 use Rattle.float_steps.specs.Words.{valueOf}
-use Rattle.operators.specs.Operators.{same, isMap}
+use Rattle.operators.specs.Operators.{sameOp, isMap}
 use Rattle.operators.specs.declared.CompositeOp.{CompositeOp}
 use Rattle.operators.specs.declared.CompositeOp.the-variants as O
 use Rattle.layers.specs.declared.Args.{Args}
@@ -74,11 +74,11 @@ rawParams args = record { a = rawArg args 0; b = rawArg args 1; c = rawArg args 
 
 unfoldable pub paramsOf : CompositeOp → Args → Params
 paramsOf op args =
-    cond (same op O.Blend) (blendParams args)
-    (cond (same op O.Dissolve) (dissolveParams args)
-    (cond (same op O.ChangeMask) (maskParams args)
-    (cond (same op O.Threshold) (thresholdParams args)
-    (cond (same op O.Modulate) (modulateParams args)
-    (cond (same op O.Mathematics) (rawParams args)
+    cond (sameOp op O.Blend) (blendParams args)
+    (cond (sameOp op O.Dissolve) (dissolveParams args)
+    (cond (sameOp op O.ChangeMask) (maskParams args)
+    (cond (sameOp op O.Threshold) (thresholdParams args)
+    (cond (sameOp op O.Modulate) (modulateParams args)
+    (cond (sameOp op O.Mathematics) (rawParams args)
     (cond (isMap op) (mapParams args)
     unused))))))

@@ -9,13 +9,13 @@ use lib.ListN.{take, drop}
 use lib.Ieee.{Float, binary32, ofInt}
 use Rattle.float_steps.specs.Notation.{_⊕_, _⊖_, _⊗_, half}
 use Rattle.float_steps.specs.Words.{wordOf}
-use Rattle.operators.specs.Operators.{same}
+use Rattle.operators.specs.Operators.{sameOp}
 use Rattle.operators.specs.declared.CompositeOp.the-variants as O
 use Rattle.places.specs.Placement.{placementOf}
-use Rattle.places.specs.Spots.{sourceIndex}
+use Rattle.places.specs.Indices.{sourceIndex}
 use Rattle.places.specs.declared.Corner.{Corner}
-use Rattle.places.specs.declared.Spot.{Spot}
-use Rattle.places.specs.declared.Spot.the-variants.{At, Off}
+use Rattle.places.specs.declared.Index.{Index}
+use Rattle.places.specs.declared.Index.the-variants.{At, Off}
 use Rattle.layers.specs.declared.ChannelMask.{ChannelMask}
 use Rattle.layers.specs.declared.Layer.{Layer}
 use Rattle.layers.specs.declared.Source.{Source}
@@ -40,21 +40,21 @@ cornerOf l dw dh = placementOf (l .gravity) dw dh (l .source .width) (l .source 
 -- ---- one pixel of a `row` (composite.rs 608 to 644)
 
 -- `sx` (composite.rs 610) and `sy`: the source's pixel on pixel j, if there is one
-abbrev pub spotOn : Layer → (dw dh j : ℕ) → Spot
-spotOn l dw dh j = sourceIndex (l .tile) (l .source .width) (l .source .height) (cornerOf l dw dh) (j % dw) (j / dw)
+abbrev pub indexOn : Layer → (dw dh j : ℕ) → Index
+indexOn l dw dh j = sourceIndex (l .tile) (l .source .width) (l .source .height) (cornerOf l dw dh) (j % dw) (j / dw)
 
 -- `inside` (composite.rs 615)
-abbrev pub inside : Spot → Bool
+abbrev pub inside : Index → Bool
 inside (At n) = true
 inside Off = false
 
 -- Whether a layer writes pixel j, as `outside_overlay` (composite.rs 616 to 618) has it: it lies on the source, or overlay
 -- is on.
 unfoldable pub writes : Layer → (dw dh j : ℕ) → Bool
-writes l dw dh j = inside (spotOn l dw dh j) || l .«outside_overlay»
+writes l dw dh j = inside (indexOn l dw dh j) || l .«outside_overlay»
 
 -- `sp` (composite.rs 619 to 624): the source's pixel, of so many channels; off the source (0, 0, 0, 0)
-unfoldable pub sourcePixel : List ℕ → (channels : ℕ) → Spot → Rgba
+unfoldable pub sourcePixel : List ℕ → (channels : ℕ) → Index → Rgba
 sourcePixel source channels (At n) = valuesOf (rgbaAt source channels n)
 sourcePixel source channels Off = clear
 
@@ -75,8 +75,8 @@ distorted v by = v ⊗ by
 unfoldable pub resultOf : Layer → (dw dh : ℕ) → (ℕ → Rgba) → (s d : Rgba) → (j : ℕ) → Rgba
 resultOf l dw dh beneath s d j =
     let p = paramsOf (l .op) (l .args) in
-    cond (same (l .op) O.Displace) (bilinearOf beneath dw dh (displaced (j % dw) (s .r) (p .a)) (displaced (j / dw) (s .g) (p .b)))
-    (cond (same (l .op) O.Distort) (bilinearOf beneath dw dh (distorted (s .r) (p .a)) (distorted (s .g) (p .b)))
+    cond (sameOp (l .op) O.Displace) (bilinearOf beneath dw dh (displaced (j % dw) (s .r) (p .a)) (displaced (j / dw) (s .g) (p .b)))
+    (cond (sameOp (l .op) O.Distort) (bilinearOf beneath dw dh (distorted (s .r) (p .a)) (distorted (s .g) (p .b)))
     (pixelOf (l .op) p s d))
 
 -- a channel, as `red` (composite.rs 632 to 634): written where its flag is on, a NaN as 7FC00000; else kept with all its bits
@@ -91,7 +91,7 @@ writtenOf m v kept =
 -- Pixel j of a layer on the picture beneath, whose pixel i is `beneath i`.
 unfoldable pub composedAt : List ℕ → Layer → (dw dh : ℕ) → (ℕ → Words) → (j : ℕ) → Words
 composedAt samples l dw dh beneath j =
-    let s = sourcePixel (sourceOf samples (l .source)) (l .source .channels) (spotOn l dw dh j) in
+    let s = sourcePixel (sourceOf samples (l .source)) (l .source .channels) (indexOn l dw dh j) in
     let r = resultOf l dw dh (λ i. valuesOf (beneath i)) s (valuesOf (beneath j)) j in
     cond (writes l dw dh j) (writtenOf (l .mask) r (beneath j)) (beneath j)
 

@@ -4,11 +4,11 @@ use mathlib.Core.Bool.{Bool, cond, _||_}
 use mathlib.Core.List.{List}
 use Prim.Native.Nat.{ℕ, _/_, _%_}
 use lib.Ieee.{Float}
-use Rattle.operators.specs.Operators.{same}
+use Rattle.operators.specs.Operators.{sameOp}
 use Rattle.operators.specs.declared.CompositeOp.{CompositeOp}
 use Rattle.operators.specs.declared.CompositeOp.the-variants as O
-use Rattle.places.specs.Spots.{sourceIndex}
-use Rattle.places.specs.declared.Spot.{Spot}
+use Rattle.places.specs.Indices.{sourceIndex}
+use Rattle.places.specs.declared.Index.{Index}
 use Rattle.layers.specs.declared.Layer.{Layer}
 use Rattle.pictures.specs.Widen.{valuesOf}
 use Rattle.pictures.specs.Bilinear.{bilinearOf}
@@ -21,7 +21,7 @@ use Rattle.compose.specs.declared.Plan.{Plan}
 
 -- the two maps that are carried
 abbrev pub readsThrough : CompositeOp → Bool
-readsThrough op = same op O.Displace || same op O.Distort
+readsThrough op = sameOp op O.Displace || sameOp op O.Distort
 
 -- a layer on a destination of dw by dh pixels
 unfoldable pub planOf : Layer → (dw dh : ℕ) → Plan
@@ -29,7 +29,7 @@ planOf l dw dh = record {
   op = l .op;
   params = paramsOf (l .op) (l .args);
   map = readsThrough (l .op);
-  displace = same (l .op) O.Displace;
+  displace = sameOp (l .op) O.Displace;
   corner = cornerOf l dw dh;
   tile = l .tile;
   overlay = l .«outside_overlay»;
@@ -43,11 +43,11 @@ planOf l dw dh = record {
 
 -- ---- one pixel by the plan, as Compose has it by the layer
 
-abbrev pub spotBy : Plan → (j : ℕ) → Spot
-spotBy p j = sourceIndex (p .tile) (p .width) (p .height) (p .corner) (j % p .dw) (j / p .dw)
+abbrev pub indexBy : Plan → (j : ℕ) → Index
+indexBy p j = sourceIndex (p .tile) (p .width) (p .height) (p .corner) (j % p .dw) (j / p .dw)
 
-abbrev pub writesBy : Plan → Spot → Bool
-writesBy p spot = inside spot || p .overlay
+abbrev pub writesBy : Plan → Index → Bool
+writesBy p index = inside index || p .overlay
 
 -- where a map reads the destination, in one coordinate
 unfoldable pub mapCoordinate : (displace : Bool) → (at : ℕ) → (v by : Float) → Float
@@ -65,4 +65,4 @@ resultBy p beneath s d j = cond (p .map) (mapped p beneath s j) (pixelOf (p .op)
 -- from its own words beneath and, for a map, the values of the whole picture beneath
 unfoldable pub composedBy : Plan → (source : List ℕ) → (ℕ → Rgba) → (own : Words) → (j : ℕ) → Words
 composedBy p source beneath own j =
-    cond (writesBy p (spotBy p j)) (writtenOf (p .mask) (resultBy p beneath (sourcePixel source (p .channels) (spotBy p j)) (valuesOf own) j) own) own
+    cond (writesBy p (indexBy p j)) (writtenOf (p .mask) (resultBy p beneath (sourcePixel source (p .channels) (indexBy p j)) (valuesOf own) j) own) own

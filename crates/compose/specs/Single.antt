@@ -16,17 +16,17 @@ pub record Composed : Type 0 where
   pub number : ℕ
   pub output : List ℕ
 
-abbrev pub answered : ℕ → List ℕ → Composed
-answered number output = record { number = number; output = output }
+abbrev pub composed : ℕ → List ℕ → Composed
+composed number output = record { number = number; output = output }
 
 -- the picture of the inputs' first layer on their destination
-abbrev pub pictureOf : Inputs → List ℕ
-pictureOf i =
+abbrev pub outputOf : Inputs → List ℕ
+outputOf i =
     composedOf (i .samples) (layerAt (i .table) (i .args) 0) (natOf (i .width)) (natOf (i .height)) (natOf (i .channels)) (i .dst)
 
 -- refused under the number of the first fault, with the output as it was; else the picture
 unfoldable pub composeOf : Inputs → List ℕ → Composed
 composeOf i out =
     cond (eqb (jobFault i .number) NONE)
-    (cond (eqb (length out) (4 * (natOf (i .width) * natOf (i .height)))) (answered NONE (pictureOf i)) (answered WORK out))
-    (answered (jobFault i .number) out)
+    (cond (eqb (length out) (4 * (natOf (i .width) * natOf (i .height)))) (composed NONE (outputOf i)) (composed WORK out))
+    (composed (jobFault i .number) out)

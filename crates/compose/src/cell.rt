@@ -2,7 +2,8 @@
 ghost use mathlib.Core.Path.{_≡_};
 ghost use Prim.Native.Nat.{_+_, _*_, _/_, _%_, _≤_};
 ghost use lib.ListN.{length};
-ghost use Rattle.operators.specs.Operators.{same};
+ghost use Rattle.lent.specs.Lent.{before};
+ghost use Rattle.operators.specs.Operators.{sameOp};
 ghost use Rattle.operators.specs.declared.CompositeOp.the-variants as O;
 ghost use Rattle.pictures.specs.Widen.{rgbaAt, valuesOf};
 ghost use Rattle.places.specs.Bounds.{slack, Measured, Under};
@@ -21,7 +22,7 @@ use pictures::Words;
 use pictures::bilinear::bilinear;
 use pictures::widen::rgba_at;
 use pictures::widen::values;
-use places::Spot;
+use places::Index;
 use places::placement;
 use places::source_index;
 
@@ -37,7 +38,7 @@ fn reads_through(op: CompositeOp) -> bool
 
 // Whether it is Displace, which moves a pixel by what the source says, and not Distort, which moves it to there.
 fn displaces(op: CompositeOp) -> bool
-    ensures { λ r. ⌜ r ≡ same op O.Displace ⌝ }
+    ensures { λ r. ⌜ r ≡ sameOp op O.Displace ⌝ }
 {
     match op {
         CompositeOp::Displace => true,
@@ -83,14 +84,14 @@ pub fn plan(l: Layer, dw: usize, dh: usize) -> Plan
     }
 }
 
-// The source's pixel at a spot; off the source (0, 0, 0, 0).
-fn source_pixel(p: Plan, source: &[u32], spot: Spot) -> Rgba
-    requires { ⌜ (Ready p (length (now source))) × (Under (p .width * p .height) spot) ⌝ }
-    ensures { λ r. ⌜ r ≡ sourcePixel (now (source .entry)) (p .channels) spot ⌝ }
+// The source's pixel at an index; off the source (0, 0, 0, 0).
+fn source_pixel(p: Plan, source: &[u32], index: Index) -> Rgba
+    requires { ⌜ (Ready p (length (now source))) × (Under (p .width * p .height) index) ⌝ }
+    ensures { λ r. ⌜ r ≡ sourcePixel (before source) (p .channels) index ⌝ }
 {
-    match spot {
-        Spot::At(n) => values(rgba_at(source, p.channels, n)),
-        Spot::Off => Rgba {
+    match index {
+        Index::At(n) => values(rgba_at(source, p.channels, n)),
+        Index::Off => Rgba {
             r: 0.0,
             g: 0.0,
             b: 0.0,
@@ -113,7 +114,7 @@ fn map_coordinate(displace: bool, at: usize, v: f32, by: f32) -> f32
 // A map's result: the destination, read where the source says.
 fn map_pixel(p: Plan, picture: &[u32], channels: usize, s: Rgba, j: usize) -> Rgba
     requires { ⌜ Beneath p (length (now picture)) channels j ⌝ }
-    ensures { λ r. ⌜ r ≡ mapped p (λ i. valuesOf (rgbaAt (now (picture .entry)) channels i)) s j ⌝ }
+    ensures { λ r. ⌜ r ≡ mapped p (λ i. valuesOf (rgbaAt (before picture) channels i)) s j ⌝ }
 {
     let dw = p.dw;
     let x = map_coordinate(p.displace, j % dw, s.r, p.params.a);
@@ -124,7 +125,7 @@ fn map_pixel(p: Plan, picture: &[u32], channels: usize, s: Rgba, j: usize) -> Rg
 // The operator's result, of the source's pixel s and the destination's own pixel d.
 fn result(p: Plan, picture: &[u32], channels: usize, s: Rgba, d: Rgba, j: usize) -> Rgba
     requires { ⌜ Beneath p (length (now picture)) channels j ⌝ }
-    ensures { λ r. ⌜ r ≡ resultBy p (λ i. valuesOf (rgbaAt (now (picture .entry)) channels i)) s d j ⌝ }
+    ensures { λ r. ⌜ r ≡ resultBy p (λ i. valuesOf (rgbaAt (before picture) channels i)) s d j ⌝ }
 {
     if p.map {
         return map_pixel(p, picture, channels, s, j);
@@ -156,12 +157,12 @@ fn written(m: ChannelMask, v: Rgba, kept: Words) -> Words
 }
 
 // Whether the layer writes a pixel: it lies on the source, or overlay is on.
-fn writing(p: Plan, spot: Spot) -> bool
-    ensures { λ r. ⌜ r ≡ writesBy p spot ⌝ }
+fn writing(p: Plan, index: Index) -> bool
+    ensures { λ r. ⌜ r ≡ writesBy p index ⌝ }
 {
-    match spot {
-        Spot::At(_) => true,
-        Spot::Off => p.overlay,
+    match index {
+        Index::At(_) => true,
+        Index::Off => p.overlay,
     }
 }
 
@@ -177,11 +178,11 @@ pub fn composed(
     y: usize,
 ) -> Words
     requires { ⌜ (Ready p (length (now source))) × (Beneath p (length (now picture)) channels j) × (x ≡ j % p .dw) × (y ≡ j / p .dw) ⌝ }
-    ensures { λ r. ⌜ r ≡ composedBy p (now (source .entry)) (λ i. valuesOf (rgbaAt (now (picture .entry)) channels i)) own j ⌝ }
+    ensures { λ r. ⌜ r ≡ composedBy p (before source) (λ i. valuesOf (rgbaAt (before picture) channels i)) own j ⌝ }
 {
-    let spot = source_index(p.tile, p.width, p.height, p.corner, x, y);
-    if writing(p, spot) {
-        let s = source_pixel(p, source, spot);
+    let index = source_index(p.tile, p.width, p.height, p.corner, x, y);
+    if writing(p, index) {
+        let s = source_pixel(p, source, index);
         let v = result(p, picture, channels, s, values(own), j);
         return written(p.mask, v, own);
     }

@@ -2,6 +2,7 @@
 ghost use mathlib.Core.Path.{_≡_};
 ghost use Prim.Native.Nat.{_+_, _*_, _/_, _%_, _<_, _≤_, min};
 ghost use lib.ListN.{length};
+ghost use Rattle.lent.specs.Lent.{before, after};
 ghost use Rattle.places.specs.Bounds.{slack};
 ghost use Rattle.pictures.specs.Widen.{rgbaAt, valuesOf};
 ghost use Rattle.pictures.specs.FlatWords.{filled};
@@ -13,7 +14,7 @@ use pictures::flat::put;
 use pictures::widen::rgba_at;
 
 // The length of a run: what is wanted, or the room for it where that is less.
-pub fn least(a: usize, b: usize) -> usize
+pub fn min(a: usize, b: usize) -> usize
     ensures { λ r. ⌜ r ≡ min a b ⌝ }
 {
     if a < b {
@@ -55,7 +56,7 @@ pub fn run(
     out: &mut [u32],
 )
     requires { ⌜ (Ready p (length (now source))) × (Run p (length (now picture)) channels from count) × (4 * count ≤ length (now beneath)) × (4 * count ≤ length (now out)) ⌝ }
-    ensures { λ _. ⌜ now (out .exit) ≡ filled (λ i. composedBy p (now (source .entry)) (λ k. valuesOf (rgbaAt (now (picture .entry)) channels k)) (rgbaAt (now (beneath .entry)) 4 i) (from + i)) count (now (out .entry)) ⌝ }
+    ensures { λ _. ⌜ after out ≡ filled (λ i. composedBy p (before source) (λ k. valuesOf (rgbaAt (before picture) channels k)) (rgbaAt (before beneath) 4 i) (from + i)) count (before out) ⌝ }
 {
     if count == 0 {
         return;
@@ -80,7 +81,7 @@ pub fn run(
 // The same on a picture of four channels, whose own pixels are those beneath.
 pub fn span(p: Plan, source: &[u32], picture: &[u32], from: usize, count: usize, out: &mut [u32])
     requires { ⌜ (Ready p (length (now source))) × (Run p (length (now picture)) 4 from count) × (4 * count ≤ length (now out)) ⌝ }
-    ensures { λ _. ⌜ now (out .exit) ≡ filled (λ i. composedBy p (now (source .entry)) (λ k. valuesOf (rgbaAt (now (picture .entry)) 4 k)) (rgbaAt (now (picture .entry)) 4 (from + i)) (from + i)) count (now (out .entry)) ⌝ }
+    ensures { λ _. ⌜ after out ≡ filled (λ i. composedBy p (before source) (λ k. valuesOf (rgbaAt (before picture) 4 k)) (rgbaAt (before picture) 4 (from + i)) (from + i)) count (before out) ⌝ }
 {
     let at = 4 * from;
     run(p, source, picture, 4, &picture[at..], from, count, out);

@@ -3,17 +3,18 @@ ghost use mathlib.Core.Path.{_≡_};
 ghost use Prim.Native.Nat.{_+_, _*_, _≤_};
 ghost use lib.IntN.{pos};
 ghost use lib.ListN.{length};
+ghost use Rattle.lent.specs.Lent.{before, after};
 ghost use Rattle.layers.specs.GoodLayers.{GoodLayer, Picture};
-ghost use Rattle.layers.specs.Inputs.{inputsOf};
+ghost use Rattle.layers.specs.Inputs.{inputs};
 ghost use Rattle.pictures.specs.Widen.{rgbaAt, valuesOf};
 ghost use Rattle.pictures.specs.FlatWords.{flat, filled};
 ghost use Rattle.compose.specs.Compose.{composedOf};
 ghost use Rattle.compose.specs.Plans.{composedBy};
 ghost use Rattle.compose.specs.Ready.{Ready, Run};
-ghost use Rattle.compose.specs.Single.{answered, composeOf};
+ghost use Rattle.compose.specs.Single.{composed, composeOf};
 use crate::Plan;
 use crate::cell::plan;
-use crate::run::least;
+use crate::run::min;
 use crate::run::run;
 use crate::source::source_of;
 use faults::Fault;
@@ -36,7 +37,7 @@ fn chunk(
     out: &mut [u32],
 )
     requires { ⌜ (Ready p (length (now source))) × (Run p (length (now dst)) channels from count) × (count ≤ 64) × (4 * count ≤ length (now out)) ⌝ }
-    ensures { λ _. ⌜ now (out .exit) ≡ filled (λ i. composedBy p (now (source .entry)) (λ k. valuesOf (rgbaAt (now (dst .entry)) channels k)) (rgbaAt (now (dst .entry)) channels (from + i)) (from + i)) count (now (out .entry)) ⌝ }
+    ensures { λ _. ⌜ after out ≡ filled (λ i. composedBy p (before source) (λ k. valuesOf (rgbaAt (before dst) channels k)) (rgbaAt (before dst) channels (from + i)) (from + i)) count (before out) ⌝ }
 {
     let mut own = [0u32; 256];
     widen(dst, channels, from, count, &mut own);
@@ -46,11 +47,11 @@ fn chunk(
 // The whole picture, chunk by chunk.
 fn chunks(p: Plan, source: &[u32], dst: &[u32], channels: usize, total: usize, out: &mut [u32])
     requires { ⌜ (Ready p (length (now source))) × (Run p (length (now dst)) channels 0 total) × (length (now out) ≡ 4 * total) ⌝ }
-    ensures { λ _. ⌜ now (out .exit) ≡ flat (λ j. composedBy p (now (source .entry)) (λ k. valuesOf (rgbaAt (now (dst .entry)) channels k)) (rgbaAt (now (dst .entry)) channels j) j) 0 total ⌝ }
+    ensures { λ _. ⌜ after out ≡ flat (λ j. composedBy p (before source) (λ k. valuesOf (rgbaAt (before dst) channels k)) (rgbaAt (before dst) channels j) j) 0 total ⌝ }
 {
     let mut j = 0;
     while j < total {
-        let count = least(CHUNK, total - j);
+        let count = min(CHUNK, total - j);
         let at = 4 * j;
         chunk(p, source, dst, channels, j, count, &mut out[at..]);
         j += count;
@@ -68,7 +69,7 @@ fn whole(
     out: &mut [u32],
 )
     requires { ⌜ (GoodLayer (length (now samples)) l) × (Picture dw dh channels (length (now dst))) × (length (now out) ≡ 4 * (dw * dh)) ⌝ }
-    ensures { λ _. ⌜ now (out .exit) ≡ composedOf (now (samples .entry)) l dw dh channels (now (dst .entry)) ⌝ }
+    ensures { λ _. ⌜ after out ≡ composedOf (before samples) l dw dh channels (before dst) ⌝ }
 {
     let p = plan(l, dw, dh);
     let source = source_of(samples, l);
@@ -86,7 +87,7 @@ pub fn compose(
     samples: &[u32],
     out: &mut [u32],
 ) -> u64
-    ensures { λ r. ⌜ answered r (now (out .exit)) ≡ composeOf (inputsOf width height channels (now (dst .entry)) (pos 1) (now (table .entry)) (now (args .entry)) (now (samples .entry))) (now (out .entry)) ⌝ }
+    ensures { λ r. ⌜ composed r (after out) ≡ composeOf (inputs width height channels dst (pos 1) table args samples) (before out) ⌝ }
 {
     let v = check(width, height, channels, dst, 1, table, args, samples);
     let number = v.number;

@@ -1,6 +1,7 @@
 // The rows of a text: a step's letter, three operands as words (the second is a side, for a coordinate) and the result.
 ghost use mathlib.Core.Path.{_≡_};
 ghost use Prim.Native.Nat.{_<_, _≤_};
+ghost use Rattle.lent.specs.Lent.{before, after};
 ghost use Rattle.verdicts.specs.Lines.{linesOf, counted, linesCounted, placesOf};
 ghost use Rattle.float_vectors.specs.Steps.{takenAt};
 use crate::steps::given;
@@ -18,7 +19,7 @@ const WORD: u64 = 0xffff_ffff;
 
 // The place after a row's result, or NOWHERE where the row is malformed or its step gives another.
 fn taken(row: &[u8]) -> usize
-    ensures { λ r. ⌜ r ≡ takenAt (now (row .entry)) ⌝ }
+    ensures { λ r. ⌜ r ≡ takenAt (before row) ⌝ }
 {
     let letter = first(row);
     if letter < b'a' {
@@ -41,7 +42,7 @@ fn taken(row: &[u8]) -> usize
 
 // Runs the step of each row, and keeps where its answer ends.
 fn replay(text: &[u8], places: &mut [usize])
-    ensures { λ _. ⌜ now (places .exit) ≡ placesOf takenAt 0 (linesOf (now (text .entry))) (now (places .entry)) ⌝ }
+    ensures { λ _. ⌜ after places ≡ placesOf takenAt 0 (linesOf (before text)) (before places) ⌝ }
 {
     let mut i: usize = 0;
     let mut from: usize = 0;
@@ -63,7 +64,7 @@ pub fn judge(
     right: &mut [u64],
     wrong: &mut [u64],
 ) -> u64
-    ensures { λ r. ⌜ counted (now (right .exit)) (now (wrong .exit)) r ≡ linesCounted (now (kinds .entry)) (placesOf takenAt 0 (linesOf (now (text .entry))) (now (places .entry))) 0 (linesOf (now (text .entry))) (counted (now (right .entry)) (now (wrong .entry)) 0) ⌝ }
+    ensures { λ r. ⌜ counted (after right) (after wrong) r ≡ linesCounted (before kinds) (placesOf takenAt 0 (linesOf (before text)) (before places)) 0 (linesOf (before text)) (counted (before right) (before wrong) 0) ⌝ }
 {
     replay(text, places);
     count_lines(text, places, kinds, right, wrong)

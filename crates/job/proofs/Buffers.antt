@@ -21,14 +21,14 @@ use Rattle.compose.specs.Compose.{sourceOf, composedAt}
 use Rattle.compose.specs.Plans.{planOf, composedBy}
 use Rattle.compose.specs.Ready.{Planned, Run}
 use Rattle.job.specs.Memory.{Mem, memOf, workIn}
-use Rattle.job.specs.Call.{pixelOf}
+use Rattle.job.specs.Call.{phasePixel}
 use Rattle.job.specs.Steps.{Buffered}
 use Rattle.job.proofs.Runs.{under-pixel}
 
 module _ (i : Inputs) (work0 work1 : List ℕ) (from n : ℕ) (out : List ℕ) where
   -- phase 0 widens the destination
-  pub fill-first : (k : ℕ) → k ≡ 0 → filled (λ x. rgbaAt (i .dst) (natOf (i .channels)) (from + x)) n out ≡ filled (λ x. pixelOf i (memOf work0 work1 []) k (from + x)) n out
-  unfolding pixelOf
+  pub fill-first : (k : ℕ) → k ≡ 0 → filled (λ x. rgbaAt (i .dst) (natOf (i .channels)) (from + x)) n out ≡ filled (λ x. phasePixel i (memOf work0 work1 []) k (from + x)) n out
+  unfolding phasePixel
   fill-first zero e = refl
   fill-first (suc k) e = absurd (omega arith)
 
@@ -36,8 +36,8 @@ module _ (i : Inputs) (work0 work1 : List ℕ) (from n : ℕ) (out : List ℕ) w
   pub fill-later : (k : ℕ) (l : Layer) (p : Plan) (source : List ℕ) (b : Bool) → (k ≡ 0 → ⊥)
       → l ≡ layerAt (i .table) (i .args) (k - 1) → Planned l (natOf (i .width)) (natOf (i .height)) p → source ≡ sourceOf (i .samples) (l .source) → eqb ((k - 1) % 2) 0 ≡ b
       → filled (λ x. composedBy p source (λ y. valuesOf (rgbaAt (cond b work0 work1) 4 y)) (rgbaAt (cond b work0 work1) 4 (from + x)) (from + x)) n out
-      ≡ filled (λ x. pixelOf i (memOf work0 work1 []) k (from + x)) n out
-  unfolding pixelOf
+      ≡ filled (λ x. phasePixel i (memOf work0 work1 []) k (from + x)) n out
+  unfolding phasePixel
   fill-later zero l p source b h el ep es eb = absurd (h refl)
   fill-later (suc k) l p source b h el ep es eb =
       let e : suc k - 1 ≡ k = omega arith in
@@ -55,12 +55,12 @@ plan-run l dw dh p words from n e w h k i =
 
 -- the pixels of n writes, in a buffer that was filled with them
 pub buffered : (i : Inputs) (k from n : ℕ) (m : Mem) (out buf : List ℕ) → 4 * ((n + 4) / 5) ≤ length buf
-    → buf ≡ filled (λ x. pixelOf i (memOf (m .work0) (m .work1) []) k (from + x)) ((n + 4) / 5) out → Buffered i k from n m buf
+    → buf ≡ filled (λ x. phasePixel i (memOf (m .work0) (m .work1) []) k (from + x)) ((n + 4) / 5) out → Buffered i k from n m buf
 buffered i k from n m out buf h e = record {
   room = h;
   pixel = λ x l.
       ap (λ (xs : List ℕ). rgbaAt xs 4 x) e
       ∙ flat-pixel _ 0 ((n + 4) / 5) _ x (omega arith)
-      ∙ ap (λ (y : ℕ). pixelOf i (memOf (m .work0) (m .work1) []) k (from + y)) (zero-add x)
+      ∙ ap (λ (y : ℕ). phasePixel i (memOf (m .work0) (m .work1) []) k (from + y)) (zero-add x)
       ∙ under-pixel i k _ m (from + x) (λ b f. refl);
 }

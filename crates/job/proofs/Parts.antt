@@ -11,7 +11,7 @@ use Rattle.job.specs.declared.Write.{Write}
 use Rattle.job.specs.declared.Write.the-variants.{Checkpoint}
 use Rattle.job.specs.Memory.{Mem, put, InRange, fiveWrites, positionOf}
 use Rattle.job.specs.Job.{pixelCount, endOf}
-use Rattle.job.specs.Call.{pixelOf, writeAt, runOf}
+use Rattle.job.specs.Call.{phasePixel, writeAt, runOf}
 use Rattle.job.specs.Uses.{NextUse}
 use Rattle.job.specs.Steps.{Sized, Midway, Part, Ran, Buffered, Fillable}
 use Rattle.job.proofs.OneWrite.{five-range}
@@ -56,9 +56,9 @@ module _ {i : Inputs} {start due u a u′ : ℕ} {m m′ : Mem} (f : Ran i start
   }
 
   -- the phase's pixels are the same
-  part-pixel : {k j n : ℕ} → Part i start due u k j n m → a ≤ n → (x : ℕ) → pixelOf i m′ k x ≡ pixelOf i m k x
+  part-pixel : {k j n : ℕ} → Part i start due u k j n m → a ≤ n → (x : ℕ) → phasePixel i m′ k x ≡ phasePixel i m k x
   part-pixel {k} {j} q h x =
-      ap (λ (y : Mem). pixelOf i y k x) (f .memory)
+      ap (λ (y : Mem). phasePixel i y k x) (f .memory)
       ∙ under-pixel i k (runOf i (5 * start + u) a m) m x (run-under i start u a k j m (q .place) (omega (arith, q .inside, q .fresh)))
 
   buffered-on : {k j n b c from : ℕ} {buf : List ℕ} → Part i start due u k j n m → a ≤ n → Buffered i k from b m buf → c ≤ b → Buffered i k from c m′ buf
@@ -82,7 +82,7 @@ module _ {i : Inputs} {m m′ : Mem} (z : Sized i m) (z′ : Sized i m′) where
 
 -- after c writes of a pixel, write c of its five is the next
 pub use-next : {i : Inputs} {start due u₀ u k j n : ℕ} {m₀ m : Mem} (words : Words) (c : ℕ) (w : Write)
-    → Part i start due u₀ k j n m₀ → n ≤ 5 → c < n → Ran i start u₀ c u m₀ m → words ≡ pixelOf i m₀ k j
+    → Part i start due u₀ k j n m₀ → n ≤ 5 → c < n → Ran i start u₀ c u m₀ m → words ≡ phasePixel i m₀ k j
     → w ≡ getD (fiveWrites k j words (positionOf m + 1)) c (Checkpoint 0)
     → NextUse i start due u m w
 use-next {i} {start} {due} {u₀} {u} {k} {j} {n} {m₀} {m} words c w q few l f ew e =
@@ -97,8 +97,8 @@ use-next {i} {start} {due} {u₀} {u} {k} {j} {n} {m₀} {m} words c w q few l f
       next =
           e
           ∙ ap (λ (x : Words). getD (fiveWrites k j x (positionOf m + 1)) c (Checkpoint 0)) (ew ∙ sym (part-pixel f q (omega arith) j))
-          ∙ ap (λ (x : ℕ). getD (fiveWrites k j (pixelOf i m k j) (x + 1)) c (Checkpoint 0)) raised
-          ∙ ap (λ (x : ℕ). getD (fiveWrites k j (pixelOf i m k j) (t / 5 + 1)) x (Checkpoint 0)) number
+          ∙ ap (λ (x : ℕ). getD (fiveWrites k j (phasePixel i m k j) (x + 1)) c (Checkpoint 0)) raised
+          ∙ ap (λ (x : ℕ). getD (fiveWrites k j (phasePixel i m k j) (t / 5 + 1)) x (Checkpoint 0)) number
           ∙ sym (write-is i m t k j at here);
       left = omega (arith, q .left, f .count);
     }

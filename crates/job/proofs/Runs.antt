@@ -16,7 +16,7 @@ use Rattle.compose.specs.Compose.{composedAt}
 use Rattle.job.specs.declared.Write.the-variants.{Checkpoint}
 use Rattle.job.specs.Memory.{Mem, put, workOf, fiveWrites, positionOf}
 use Rattle.job.specs.Job.{pixelCount}
-use Rattle.job.specs.Call.{pixelOf, writeAt, runOf}
+use Rattle.job.specs.Call.{phasePixel, writeAt, runOf}
 use Rattle.job.specs.Steps.{Sized, Midway}
 use Rattle.job.proofs.OneWrite.{le-or-lt, put-sized, word-checkpoint, word-at, five-other}
 
@@ -47,8 +47,8 @@ run-split i t a (suc b) m =
 abbrev pub Under : ℕ → Mem → Mem → Type 0
 Under k m m′ = (b : ℕ) → suc b ≡ k → workOf b m ≡ workOf b m′
 
-pub under-pixel : (i : Inputs) (k : ℕ) (m m′ : Mem) (j : ℕ) → Under k m m′ → pixelOf i m k j ≡ pixelOf i m′ k j
-unfolding pixelOf
+pub under-pixel : (i : Inputs) (k : ℕ) (m m′ : Mem) (j : ℕ) → Under k m m′ → phasePixel i m k j ≡ phasePixel i m′ k j
+unfolding phasePixel
 under-pixel i zero m m′ j h = refl
 under-pixel i (suc k) m m′ j h =
     ap (λ (l : List ℕ). composedAt (i .samples) (layerAt (i .table) (i .args) k) (natOf (i .width)) (natOf (i .height)) (rgbaAt l 4) j) (h k refl)
@@ -68,11 +68,11 @@ run-under i start uses (suc n) k j m e h b f =
     let q : p ≡ k * pixelCount i + x = omega (arith, e) in
     let d : p / pixelCount i ≡ k = place-div (pixelCount i) p k x q (omega arith) in
     let r = runOf i (5 * start + uses) n m in
-    under-write (p / pixelCount i) (p % pixelCount i) (pixelOf i r (p / pixelCount i) (p % pixelCount i)) (p + 1) ((5 * start + uses + n) % 5) r b (f ∙ sym d)
+    under-write (p / pixelCount i) (p % pixelCount i) (phasePixel i r (p / pixelCount i) (p % pixelCount i)) (p + 1) ((5 * start + uses + n) % 5) r b (f ∙ sym d)
     ∙ run-under i start uses n k j m e (omega arith) b f
 
 -- a write of pixel j of phase k
-pub write-is : (i : Inputs) (m : Mem) (t k j : ℕ) → t / 5 ≡ k * pixelCount i + j → j < pixelCount i → writeAt i m t ≡ getD (fiveWrites k j (pixelOf i m k j) (t / 5 + 1)) (t % 5) (Checkpoint 0)
+pub write-is : (i : Inputs) (m : Mem) (t k j : ℕ) → t / 5 ≡ k * pixelCount i + j → j < pixelCount i → writeAt i m t ≡ getD (fiveWrites k j (phasePixel i m k j) (t / 5 + 1)) (t % 5) (Checkpoint 0)
 unfolding writeAt
 write-is i m t k j e h = rw (place-div (pixelCount i) (t / 5) k j e h, place-mod (pixelCount i) (t / 5) k j e h)
 
@@ -84,7 +84,7 @@ unfolding writeAt
 write-position i m t z e =
     let p = t / 5 in
     let c = t % 5 in
-    let w = pixelOf i m (p / pixelCount i) (p % pixelCount i) in
+    let w = phasePixel i m (p / pixelCount i) (p % pixelCount i) in
     ⊎-elim
     (λ l.
     rw (word-at (p / pixelCount i) (p % pixelCount i) w (p + 1) (Checkpoint 0) c (omega arith))

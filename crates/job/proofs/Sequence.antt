@@ -17,7 +17,7 @@ use Rattle.job.specs.declared.Write.{Write}
 use Rattle.job.specs.declared.Write.the-variants.{Checkpoint}
 use Rattle.job.specs.Memory.{Mem, workOf, fiveWrites}
 use Rattle.job.specs.Job.{pixelCount, layerCount, endOf}
-use Rattle.job.specs.Call.{pixelOf, writeAt}
+use Rattle.job.specs.Call.{phasePixel, writeAt}
 use Rattle.job.specs.Model.{pictureOf, pictureWrites, writeSequence}
 use Rattle.job.proofs.Checked.{some-pixel, phase-within}
 use Rattle.job.proofs.Blocks.{length-blocks, getD-blocks}
@@ -34,8 +34,8 @@ whole-pixel f n j h = ap (λ (l : List ℕ). rgbaAt l 4 j) (sym (append-nil (fla
 
 -- Where the picture beneath is the model's, the pixel that a call works out is the model's.
 pixel-right : (i : Inputs) (m : Mem) (k j : ℕ) → j < pixelCount i → ((b : ℕ) → suc b ≡ k → workOf b m ≡ pictureOf i b)
-    → pixelOf i m k j ≡ rgbaAt (pictureOf i k) 4 j
-unfolding pixelOf pictureOf
+    → phasePixel i m k j ≡ rgbaAt (pictureOf i k) 4 j
+unfolding phasePixel pictureOf
 pixel-right i m zero j h below = sym (whole-pixel _ (pixelCount i) j h)
 pixel-right i m (suc k) j h below =
     ap (λ (l : List ℕ). composedAt (i .samples) (layerAt (i .table) (i .args) k) (natOf (i .width)) (natOf (i .height)) (rgbaAt l 4) j) (below k refl)

@@ -20,15 +20,15 @@ use Rattle.job.specs.Memory.{Mem, memOf, positionOf, put, workOf, fiveWr
 -- ---- the writes of an accepted call
 
 -- Pixel j of phase k, by the memory that it finds: phase 0 widens the destination, phase k + 1 composites layer k on the picture in work k mod 2.
-unfoldable pub pixelOf : Inputs → Mem → (k j : ℕ) → Words
-pixelOf i m zero j = rgbaAt (i .dst) (natOf (i .channels)) j
-pixelOf i m (suc k) j =
+unfoldable pub phasePixel : Inputs → Mem → (k j : ℕ) → Words
+phasePixel i m zero j = rgbaAt (i .dst) (natOf (i .channels)) j
+phasePixel i m (suc k) j =
     composedAt (i .samples) (layerAt (i .table) (i .args) k) (natOf (i .width)) (natOf (i .height)) (rgbaAt (workOf k m) 4) j
 
 -- Write t of the job, counted from its start, five a position: the phase of position p is p / N, its pixel p mod N.
 unfoldable pub writeAt : Inputs → Mem → (t : ℕ) → Write
 writeAt i m t =
-    let p = t / 5 in let k = p / pixelCount i in let j = p % pixelCount i in getD (fiveWrites k j (pixelOf i m k j) (p + 1)) (t % 5) (Checkpoint 0)
+    let p = t / 5 in let k = p / pixelCount i in let j = p % pixelCount i in getD (fiveWrites k j (phasePixel i m k j) (p + 1)) (t % 5) (Checkpoint 0)
 
 -- the memory after n writes from write t on
 unfoldable pub runOf : Inputs → (t n : ℕ) → Mem → Mem
@@ -49,8 +49,8 @@ pub record Outcome : Type 0 where
   pub mem : Mem
   pub answer : Answer
 
-abbrev pub outcome : List ℕ → List ℕ → List ℕ → Answer → Outcome
-outcome work0 work1 checkpoint r = record { mem = memOf work0 work1 checkpoint; answer = r }
+abbrev pub outcome : Mem → Answer → Outcome
+outcome m r = record { mem = m; answer = r }
 
 unfoldable pub acceptedOf : Inputs → (allowance : ℕ) → Mem → Outcome
 acceptedOf i allowance m =

@@ -5,6 +5,8 @@ use mathlib.Core.List.{List, [], _∷_}
 use Prim.Native.Nat.{ℕ, _+_, _*_, _%_, _<_}
 use lib.Dec.{eqb}
 use lib.ListN.{length, getD, set}
+use denote.Ref.{RefT, now}
+use Rattle.lent.specs.Lent.{Lent, before, after}
 use Rattle.pictures.specs.declared.Words.{Words}
 use Rattle.job.specs.declared.Write.{Write}
 use Rattle.job.specs.declared.Write.the-variants.{Work0, Work1, Checkpoint}
@@ -16,6 +18,16 @@ pub record Mem : Type 0 where
 
 abbrev pub memOf : List ℕ → List ℕ → List ℕ → Mem
 memOf work0 work1 checkpoint = record { work0 = work0; work1 = work1; checkpoint = checkpoint }
+
+-- the memory that a function is lent, by its parameters: as a `requires` names them, and, as an `ensures` does, what it finds and what it leaves
+abbrev pub held : (work0 work1 checkpoint : RefT (List ℕ)) → Mem
+held work0 work1 checkpoint = memOf (now work0) (now work1) (now checkpoint)
+
+abbrev pub found : (work0 work1 checkpoint : Lent (List ℕ)) → Mem
+found work0 work1 checkpoint = memOf (before work0) (before work1) (before checkpoint)
+
+abbrev pub left : (work0 work1 checkpoint : Lent (List ℕ)) → Mem
+left work0 work1 checkpoint = memOf (after work0) (after work1) (after checkpoint)
 
 -- the job's position: the pixels that it has written, over all pictures
 abbrev pub positionOf : Mem → ℕ

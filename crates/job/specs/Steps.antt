@@ -8,7 +8,7 @@ use Rattle.layers.specs.Inputs.{Inputs, jobFault}
 use Rattle.pictures.specs.Widen.{rgbaAt}
 use Rattle.job.specs.Memory.{Mem, positionOf}
 use Rattle.job.specs.Job.{pixelCount, layerCount, endOf}
-use Rattle.job.specs.Call.{pixelOf, runOf}
+use Rattle.job.specs.Call.{phasePixel, runOf}
 
 -- a bound of positions and of places in a list, 2^62; it is slack
 abbrev pub mostPosition : ℕ
@@ -59,4 +59,4 @@ pub record Fillable (i : Inputs) (k from count : ℕ) (work0 work1 : List ℕ) :
 -- it holds the pixels of n writes of phase k, from pixel `from` on
 pub record Buffered (i : Inputs) (k from n : ℕ) (m : Mem) (buf : List ℕ) : Type 0 where
   pub room : 4 * ((n + 4) / 5) ≤ length buf
-  pub pixel : (x : ℕ) → 5 * x < n → rgbaAt buf 4 x ≡ pixelOf i m k (from + x)
+  pub pixel : (x : ℕ) → 5 * x < n → rgbaAt buf 4 x ≡ phasePixel i m k (from + x)

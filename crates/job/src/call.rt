@@ -2,16 +2,17 @@
 ghost use mathlib.Core.Path.{_≡_};
 ghost use Prim.Native.Nat.{_+_, _*_, _≤_};
 ghost use lib.Dec.{eqb};
+ghost use Rattle.lent.specs.Lent.{before, after};
 ghost use Rattle.faults.specs.Faults.{NONE};
-ghost use Rattle.layers.specs.Inputs.{inputsOf};
-ghost use Rattle.job.specs.Memory.{memOf};
+ghost use Rattle.layers.specs.Inputs.{inputsOf, inputs};
+ghost use Rattle.job.specs.Memory.{held, found, left};
 ghost use Rattle.job.specs.Job.{memoryFault, callFault, acceptance};
 ghost use Rattle.job.specs.Call.{outcome, acceptedOf, callOf};
 ghost use Rattle.job.specs.Steps.{mostPosition};
 use crate::Answer;
 use crate::Extent;
 use crate::writes::writes;
-use compose::run::least;
+use compose::run::min;
 use faults::Fault;
 use layers::Verdict;
 use layers::cells::natural;
@@ -20,7 +21,7 @@ use layers::check;
 // The fault of the lent memory.
 fn memory_fault(pixels: usize, end: usize, work0: &[u32], work1: &[u32], checkpoint: &[u64]) -> u64
     requires { ⌜ 4 * pixels ≤ mostPosition ⌝ }
-    ensures { λ r. ⌜ r ≡ memoryFault pixels end (memOf (now (work0 .entry)) (now (work1 .entry)) (now (checkpoint .entry))) ⌝ }
+    ensures { λ r. ⌜ r ≡ memoryFault pixels end (found work0 work1 checkpoint) ⌝ }
 {
     if work0.len() != 4 * pixels {
         return Fault::WORK;
@@ -52,8 +53,7 @@ fn fault(
     checkpoint: &[u64],
 ) -> Verdict
     ensures { λ r. ⌜
-        r
-        ≡ callFault (inputsOf width height channels (now (dst .entry)) count (now (table .entry)) (now (args .entry)) (now (samples .entry))) (memOf (now (work0 .entry)) (now (work1 .entry)) (now (checkpoint .entry)))
+        r ≡ callFault (inputs width height channels dst count table args samples) (found work0 work1 checkpoint)
         ⌝ }
 {
     let v = check(width, height, channels, dst, count, table, args, samples);
@@ -95,10 +95,13 @@ fn accepted(
     work1: &mut [u32],
     checkpoint: &mut [u64],
 ) -> Answer
-    requires { ⌜ callFault (inputsOf width height channels (now dst) count (now table) (now args) (now samples)) (memOf (now work0) (now work1) (now checkpoint)) .number ≡ NONE ⌝ }
+    requires { ⌜
+        callFault (inputsOf width height channels (now dst) count (now table) (now args) (now samples)) (held work0 work1 checkpoint) .number
+        ≡ NONE
+        ⌝ }
     ensures { λ r. ⌜
-        outcome (now (work0 .exit)) (now (work1 .exit)) (now (checkpoint .exit)) r
-        ≡ acceptedOf (inputsOf width height channels (now (dst .entry)) count (now (table .entry)) (now (args .entry)) (now (samples .entry))) allowance (memOf (now (work0 .entry)) (now (work1 .entry)) (now (checkpoint .entry)))
+        outcome (left work0 work1 checkpoint) r
+        ≡ acceptedOf (inputs width height channels dst count table args samples) allowance (found work0 work1 checkpoint)
         ⌝ }
 {
     let w = natural(width);
@@ -113,7 +116,7 @@ fn accepted(
         channels: natural(channels),
         layers,
         start,
-        due: least(allowance as usize, left),
+        due: min(allowance as usize, left),
     };
     let mut uses = 0u64;
     writes(
@@ -146,8 +149,8 @@ pub fn run(
     checkpoint: &mut [u64],
 ) -> Answer
     ensures { λ r. ⌜
-        outcome (now (work0 .exit)) (now (work1 .exit)) (now (checkpoint .exit)) r
-        ≡ callOf (inputsOf width height channels (now (dst .entry)) count (now (table .entry)) (now (args .entry)) (now (samples .entry))) allowance (memOf (now (work0 .entry)) (now (work1 .entry)) (now (checkpoint .entry)))
+        outcome (left work0 work1 checkpoint) r
+        ≡ callOf (inputs width height channels dst count table args samples) allowance (found work0 work1 checkpoint)
         ⌝ }
 {
     let v = fault(

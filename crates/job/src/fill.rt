@@ -3,9 +3,10 @@ ghost use mathlib.Core.Path.{_≡_};
 ghost use mathlib.Core.List.{[]};
 ghost use Prim.Native.Nat.{_+_, _*_, _≤_};
 ghost use lib.ListN.{length};
+ghost use Rattle.lent.specs.Lent.{before, after};
 ghost use Rattle.pictures.specs.FlatWords.{filled};
 ghost use Rattle.job.specs.Memory.{memOf};
-ghost use Rattle.job.specs.Call.{pixelOf};
+ghost use Rattle.job.specs.Call.{phasePixel};
 ghost use Rattle.job.specs.Uses.{inputsBy};
 ghost use Rattle.job.specs.Steps.{Fillable};
 use crate::Extent;
@@ -35,12 +36,12 @@ pub fn fill(
         × (4 * count ≤ length (now out))
         ⌝ }
     ensures { λ _. ⌜
-        now (out .exit)
+        after out
         ≡ filled
         (λ x.
-        pixelOf (inputsBy extent (now (dst .entry)) (now (table .entry)) (now (args .entry)) (now (samples .entry)))
-        (memOf (now (work0 .entry)) (now (work1 .entry)) []) k (from + x))
-        count (now (out .entry))
+        phasePixel (inputsBy extent (before dst) (before table) (before args) (before samples))
+        (memOf (before work0) (before work1) []) k (from + x))
+        count (before out)
         ⌝ }
 {
     if k == 0 {

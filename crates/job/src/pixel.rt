@@ -2,9 +2,10 @@
 ghost use mathlib.Core.Path.{_≡_};
 ghost use Prim.Native.Nat.{_+_, _*_, _<_, _≤_};
 ghost use lib.ListN.{length, getD};
+ghost use Rattle.lent.specs.Lent.{before, after};
 ghost use Rattle.pictures.specs.Widen.{rgbaAt};
 ghost use Rattle.job.specs.declared.Write.the-variants.{Checkpoint};
-ghost use Rattle.job.specs.Memory.{memOf, fiveWrites};
+ghost use Rattle.job.specs.Memory.{held, found, left, fiveWrites};
 ghost use Rattle.job.specs.Uses.{inputsBy};
 ghost use Rattle.job.specs.Steps.{mostPosition, Part, Buffered, Ran};
 use crate::Extent;
@@ -14,7 +15,7 @@ use crate::store::store;
 // Write c of the five of pixel j of picture k, whose words are pixel x of the buffer: red, green, blue, alpha, then the position, raised by one.
 fn write_of(k: usize, j: usize, buf: &[u32], x: usize, c: usize, position: u64) -> Write
     requires { ⌜ (c < 5) × (c < 4 → 4 * x + c < length (now buf)) × (4 * j < mostPosition) × (position < mostPosition) ⌝ }
-    ensures { λ r. ⌜ r ≡ getD (fiveWrites k j (rgbaAt (now (buf .entry)) 4 x) (position + 1)) c (Checkpoint 0) ⌝ }
+    ensures { λ r. ⌜ r ≡ getD (fiveWrites k j (rgbaAt (before buf) 4 x) (position + 1)) c (Checkpoint 0) ⌝ }
 {
     if c == 4 {
         return Write::Checkpoint {
@@ -49,16 +50,16 @@ fn pixel(
 )
     requires { ⌜
         (Part (inputsBy extent (now dst) (now table) (now args) (now samples)) (extent .start) (extent .due)
-        (now uses) k (from + x) n (memOf (now work0) (now work1) (now checkpoint)))
+        (now uses) k (from + x) n (held work0 work1 checkpoint))
         × (Buffered (inputsBy extent (now dst) (now table) (now args) (now samples)) k from (5 * x + n)
-        (memOf (now work0) (now work1) (now checkpoint)) (now buf))
+        (held work0 work1 checkpoint) (now buf))
         × (n ≤ 5)
         ⌝ }
     ensures { λ _. ⌜
-        Ran (inputsBy extent (now (dst .entry)) (now (table .entry)) (now (args .entry)) (now (samples .entry))) (extent .start)
-        (now (uses .entry)) n (now (uses .exit))
-        (memOf (now (work0 .entry)) (now (work1 .entry)) (now (checkpoint .entry)))
-        (memOf (now (work0 .exit)) (now (work1 .exit)) (now (checkpoint .exit)))
+        Ran (inputsBy extent (before dst) (before table) (before args) (before samples)) (extent .start)
+        (before uses) n (after uses)
+        (found work0 work1 checkpoint)
+        (left work0 work1 checkpoint)
         ⌝ }
 {
     let mut c = 0;
@@ -98,15 +99,15 @@ pub fn write_out(
 )
     requires { ⌜
         (Part (inputsBy extent (now dst) (now table) (now args) (now samples)) (extent .start) (extent .due)
-        (now uses) k from n (memOf (now work0) (now work1) (now checkpoint)))
+        (now uses) k from n (held work0 work1 checkpoint))
         × (Buffered (inputsBy extent (now dst) (now table) (now args) (now samples)) k from n
-        (memOf (now work0) (now work1) (now checkpoint)) (now buf))
+        (held work0 work1 checkpoint) (now buf))
         ⌝ }
     ensures { λ _. ⌜
-        Ran (inputsBy extent (now (dst .entry)) (now (table .entry)) (now (args .entry)) (now (samples .entry))) (extent .start)
-        (now (uses .entry)) n (now (uses .exit))
-        (memOf (now (work0 .entry)) (now (work1 .entry)) (now (checkpoint .entry)))
-        (memOf (now (work0 .exit)) (now (work1 .exit)) (now (checkpoint .exit)))
+        Ran (inputsBy extent (before dst) (before table) (before args) (before samples)) (extent .start)
+        (before uses) n (after uses)
+        (found work0 work1 checkpoint)
+        (left work0 work1 checkpoint)
         ⌝ }
 {
     let mut x = 0;

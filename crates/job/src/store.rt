@@ -1,7 +1,8 @@
 // The one function that writes.
 ghost use mathlib.Core.Path.{_≡_};
 ghost use Prim.Native.Nat.{_+_};
-ghost use Rattle.job.specs.Memory.{memOf, put};
+ghost use Rattle.lent.specs.Lent.{before, after};
+ghost use Rattle.job.specs.Memory.{held, found, left, put};
 ghost use Rattle.job.specs.Uses.{inputsBy, NextUse};
 use crate::Extent;
 use crate::Write;
@@ -23,12 +24,12 @@ pub fn store(
 )
     requires { ⌜
         NextUse (inputsBy extent (now dst) (now table) (now args) (now samples)) (extent .start) (extent .due)
-        (now uses) (memOf (now work0) (now work1) (now checkpoint)) write
+        (now uses) (held work0 work1 checkpoint) write
         ⌝ }
     ensures { λ _. ⌜
-        (memOf (now (work0 .exit)) (now (work1 .exit)) (now (checkpoint .exit))
-        ≡ put write (memOf (now (work0 .entry)) (now (work1 .entry)) (now (checkpoint .entry))))
-        × (now (uses .exit) ≡ now (uses .entry) + 1)
+        (left work0 work1 checkpoint
+        ≡ put write (found work0 work1 checkpoint))
+        × (after uses ≡ before uses + 1)
         ⌝ }
 {
     match write {

@@ -1,14 +1,15 @@
 // The writes of an accepted call, span by span: pixels of one phase are composed into a private buffer and written from it.
 ghost use mathlib.Core.Path.{_≡_};
 ghost use Prim.Native.Nat.{_*_};
-ghost use Rattle.job.specs.Memory.{memOf};
+ghost use Rattle.lent.specs.Lent.{before, after};
+ghost use Rattle.job.specs.Memory.{held, found, left};
 ghost use Rattle.job.specs.Call.{runOf};
 ghost use Rattle.job.specs.Uses.{inputsBy};
 ghost use Rattle.job.specs.Steps.{Midway};
 use crate::Extent;
 use crate::fill::fill;
 use crate::pixel::write_out;
-use compose::run::least;
+use compose::run::min;
 
 // Pixels are composed 128 at a time: SPAN is their writes, five each, and the buffer has their words, four each. With fewer, decoding their layer each
 // time would cost more; with more, clearing the buffer would cost more in a short call.
@@ -29,13 +30,13 @@ pub fn writes(
     requires { ⌜
         (now uses ≡ 0)
         × (Midway (inputsBy extent (now dst) (now table) (now args) (now samples)) (extent .start) (extent .due)
-        (now uses) (memOf (now work0) (now work1) (now checkpoint)))
+        (now uses) (held work0 work1 checkpoint))
         ⌝ }
     ensures { λ _. ⌜
-        (memOf (now (work0 .exit)) (now (work1 .exit)) (now (checkpoint .exit))
-        ≡ runOf (inputsBy extent (now (dst .entry)) (now (table .entry)) (now (args .entry)) (now (samples .entry))) (5 * extent .start) (now (uses .exit))
-        (memOf (now (work0 .entry)) (now (work1 .entry)) (now (checkpoint .entry))))
-        × (now (uses .exit) ≡ extent .due)
+        (left work0 work1 checkpoint
+        ≡ runOf (inputsBy extent (before dst) (before table) (before args) (before samples)) (5 * extent .start) (after uses)
+        (found work0 work1 checkpoint))
+        × (after uses ≡ extent .due)
         ⌝ }
 {
     let pixels = extent.width * extent.height;
@@ -45,7 +46,7 @@ pub fn writes(
         let at = extent.start + done / 5;
         let k = at / pixels;
         let from = at % pixels;
-        let n = least(SPAN, least(extent.due - done, 5 * (pixels - from)));
+        let n = min(SPAN, min(extent.due - done, 5 * (pixels - from)));
         fill(
             extent,
             dst,

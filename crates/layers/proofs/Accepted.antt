@@ -14,7 +14,7 @@ use Rattle.places.specs.Bounds.{slack, Measured}
 use Rattle.places.specs.Gravities.{lastGravity}
 use Rattle.layers.specs.declared.Layer.{Layer}
 use Rattle.layers.specs.declared.Verdict.{Verdict}
-use Rattle.layers.specs.Cells.{cellOf, natOf, outsideZ, badShape, areaOf}
+use Rattle.layers.specs.Cells.{cellOf, natOf, outsideZ, badShape, sampleCount}
 use Rattle.layers.specs.Faults.{firstOf, faultIf, badOffset, badPlacing, badSource, layerChecks, layerFault}
 use Rattle.layers.specs.GoodLayers.{GoodLayer, Picture}
 use Rattle.layers.specs.Inputs.{Inputs, verdict, badStack, badDst, rowsFault, jobFault}
@@ -26,7 +26,7 @@ use Rattle.layers.proofs.Ranges.{Ranged, ranged, Shaped, shaped, both-f
 -- inputs without a fault
 pub record Accepted (i : Inputs) : Type 0 where
   pub shape : Shaped (i .width) (i .height) (i .channels)
-  pub dst : length (i .dst) ≡ areaOf (i .width) (i .height) (i .channels)
+  pub dst : length (i .dst) ≡ sampleCount (i .width) (i .height) (i .channels)
   pub count : Ranged 1 mostLayers (i .count)
   pub table : length (i .table) ≡ natOf (i .count) * columns
   pub args : length (i .args) ≡ natOf (i .count) * argWords
@@ -70,7 +70,7 @@ module _ (table : List ℤ) (args : List ℕ) (samples k : ℕ) where
       let p = both-fail (g || r) d e in
       (offset-most (cellOf table k atRight) (both-fail g r (p .0) .1), offset-most (cellOf table k atDown) (p .1))
 
-  sourced : badSource table samples k ≡ false → Shaped (cellOf table k atWidth) (cellOf table k atHeight) (cellOf table k atChannels) × (natOf (cellOf table k atFirst) + areaOf (cellOf table k atWidth) (cellOf table k atHeight) (cellOf table k atChannels) ≤ samples)
+  sourced : badSource table samples k ≡ false → Shaped (cellOf table k atWidth) (cellOf table k atHeight) (cellOf table k atChannels) × (natOf (cellOf table k atFirst) + sampleCount (cellOf table k atWidth) (cellOf table k atHeight) (cellOf table k atChannels) ≤ samples)
   unfolding badSource
   sourced e =
       let n = ltZ (cellOf table k atFirst) (pos 0) in
@@ -136,12 +136,12 @@ stacked count table args e =
     }
 
 -- the samples of a destination in its range
-pub filled : (width height channels : ℤ) (dst : ℕ) → badDst width height channels dst ≡ false → Shaped width height channels × (dst ≡ areaOf width height channels)
+pub filled : (width height channels : ℤ) (dst : ℕ) → badDst width height channels dst ≡ false → Shaped width height channels × (dst ≡ sampleCount width height channels)
 unfolding badDst
 filled width height channels dst e =
-    let p = both-fail (badShape width height channels) (not (eqb dst (areaOf width height channels))) e in (
+    let p = both-fail (badShape width height channels) (not (eqb dst (sampleCount width height channels))) e in (
       shaped width height channels (p .0),
-      eqb-true dst (areaOf width height channels) (not-fails (eqb dst (areaOf width height channels)) (p .1)),
+      eqb-true dst (sampleCount width height channels) (not-fails (eqb dst (sampleCount width height channels)) (p .1)),
     )
 
 -- the tests in turn, where the answer is no fault

@@ -6,7 +6,7 @@ use lib.Dec.{ltb}
 use lib.IntN.{ℤ, pos, negsuc}
 use borrow.Author.Tests.{eqb-false}
 use Rattle.operators.specs.Numbers.{curve, named, opOf}
-use Rattle.operators.specs.Operators.{count, numberOf, opAt, same}
+use Rattle.operators.specs.Operators.{count, numberOf, opAt, sameOp}
 use Rattle.operators.specs.declared.CompositeOp.{CompositeOp}
 use Rattle.operators.specs.declared.CompositeOp.the-variants.{Interpolate, Blur}
 use Rattle.operators.specs.declared.Numbered.the-variants.{Op, Unknown, Curve}
@@ -25,7 +25,7 @@ unfolding natOf named
 carried (pos n) e =
     let o = opAt n in
     let p = passed (ltb n count) (curve o) o e in
-    let q = both-fail (same o Interpolate) (same o Blur) (p .1) in
+    let q = both-fail (sameOp o Interpolate) (sameOp o Blur) (p .1) in
     record {
       not-interpolate = λ i. eqb-false (numberOf o) (numberOf Interpolate) (q .0) (ap numberOf i);
       not-blur = λ i. eqb-false (numberOf o) (numberOf Blur) (q .1) (ap numberOf i);

@@ -10,7 +10,7 @@ use lib.IntN.{ℤ, pos, negsuc}
 use lib.Signed.{mag}
 use borrow.Author.Tests.{ltb-false, eqb-true}
 use Rattle.places.specs.Bounds.{slack}
-use Rattle.layers.specs.Cells.{natOf, outsideZ, badChannels, Channels, badShape, areaOf}
+use Rattle.layers.specs.Cells.{natOf, outsideZ, badChannels, Channels, badShape, sampleCount}
 use Rattle.layers.specs.Limits.{mostSide}
 
 pub nat-mag : (z : ℤ) → natOf z ≤ mag z
@@ -98,7 +98,7 @@ shaped width height channels e =
 pub plane-most : (w h c : ℤ) → Shaped w h c → natOf w * natOf h ≤ slack * slack
 plane-most w h c s = mul-le-mul (s .wide .most) (s .high .most)
 
-pub area-most : (w h c : ℤ) → Shaped w h c → areaOf w h c ≤ slack * slack * 4
+pub area-most : (w h c : ℤ) → Shaped w h c → sampleCount w h c ≤ slack * slack * 4
 area-most w h c s = mul-le-mul (plane-most w h c s) (channels-most (natOf c) (s .deep .kind))
 
 -- products of equal numbers
@@ -112,5 +112,5 @@ area-as p q r = rw (p, q, r)
 pub shape-as : {r : Bool} {x y z a b c : ℤ} → r ≡ badShape x y z → x ≡ a → y ≡ b → z ≡ c → r ≡ badShape a b c
 shape-as e p q s = rw (← p, ← q, ← s) e
 
-pub area-at : {n : ℕ} {x y z a b c : ℤ} → n ≡ areaOf x y z → x ≡ a → y ≡ b → z ≡ c → n ≡ areaOf a b c
+pub area-at : {n : ℕ} {x y z a b c : ℤ} → n ≡ sampleCount x y z → x ≡ a → y ≡ b → z ≡ c → n ≡ sampleCount a b c
 area-at e p q s = rw (← p, ← q, ← s) e

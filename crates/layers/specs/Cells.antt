@@ -40,5 +40,5 @@ badShape width height channels =
     || badChannels channels
 
 -- the samples of a picture
-abbrev pub areaOf : ℤ → ℤ → ℤ → ℕ
-areaOf width height channels = natOf width * natOf height * natOf channels
+abbrev pub sampleCount : ℤ → ℤ → ℤ → ℕ
+sampleCount width height channels = natOf width * natOf height * natOf channels

@@ -11,7 +11,7 @@ use Rattle.operators.specs.Numbers.{opOf}
 use Rattle.operators.specs.declared.Numbered.{Numbered}
 use Rattle.operators.specs.declared.Numbered.the-variants.{Op, Unknown, Curve}
 use Rattle.places.specs.Gravities.{lastGravity}
-use Rattle.layers.specs.Cells.{cellOf, natOf, outsideZ, badShape, areaOf}
+use Rattle.layers.specs.Cells.{cellOf, natOf, outsideZ, badShape, sampleCount}
 use Rattle.layers.specs.Limits.{mostOffset, mostFlags, argWords, atOperator, atGravity, atRight, atDown, atFlags, atFirst, atWidth, atHeight, atChannels, atCount}
 
 -- the first fault of a list of checks
@@ -46,7 +46,7 @@ badSource table samples k =
     ltZ (cellOf table k atFirst) (pos 0)
     || badShape (cellOf table k atWidth) (cellOf table k atHeight) (cellOf table k atChannels)
     || ltb samples
-    (natOf (cellOf table k atFirst) + areaOf (cellOf table k atWidth) (cellOf table k atHeight) (cellOf table k atChannels))
+    (natOf (cellOf table k atFirst) + sampleCount (cellOf table k atWidth) (cellOf table k atHeight) (cellOf table k atChannels))
 
 -- the checks of row k, for the number of the source samples
 abbrev pub layerChecks : List ℤ → ℕ → ℕ → List ℕ

@@ -6,9 +6,10 @@ use Prim.Native.Nat.{ℕ, zero, suc, _*_}
 use lib.Dec.{eqb}
 use lib.IntN.{ℤ, pos}
 use lib.ListN.{length}
+use Rattle.lent.specs.Lent.{Lent, before}
 use Rattle.faults.specs.Faults.{NONE, STACK, TRAY}
 use Rattle.layers.specs.declared.Verdict.{Verdict}
-use Rattle.layers.specs.Cells.{natOf, outsideZ, badShape, areaOf}
+use Rattle.layers.specs.Cells.{natOf, outsideZ, badShape, sampleCount}
 use Rattle.layers.specs.Faults.{layerFault}
 use Rattle.layers.specs.Limits.{columns, argWords, mostLayers}
 
@@ -36,6 +37,11 @@ inputsOf width height channels dst count table args samples = record {
   samples = samples;
 }
 
+-- the same by a function's parameters, as an `ensures` names them
+abbrev pub inputs : (width height channels : ℤ) → (dst : Lent (List ℕ)) → (count : ℤ) → (table : Lent (List ℤ)) → (args samples : Lent (List ℕ)) → Inputs
+inputs width height channels dst count table args samples =
+    inputsOf width height channels (before dst) count (before table) (before args) (before samples)
+
 -- a fault's number and its layer
 abbrev pub verdict : ℕ → ℕ → Verdict
 verdict number layer = record { number = number; layer = layer }
@@ -49,7 +55,7 @@ badStack count table args =
 
 -- TRAY, for the number of the destination's samples
 unfoldable pub badDst : ℤ → ℤ → ℤ → ℕ → Bool
-badDst width height channels dst = badShape width height channels || not (eqb dst (areaOf width height channels))
+badDst width height channels dst = badShape width height channels || not (eqb dst (sampleCount width height channels))
 
 -- the first fault of n rows from row k on, with its row; 0 where there is none
 unfoldable pub rowsFault : List ℤ → ℕ → ℕ → ℕ → Verdict

@@ -3,7 +3,8 @@ ghost use mathlib.Core.Path.{_≡_};
 ghost use mathlib.Core.Bool.{false};
 ghost use Prim.Native.Nat.{_+_, _*_, _<_, _≤_};
 ghost use lib.ListN.{length};
-ghost use Rattle.layers.specs.Cells.{cellOf, natOf, outsideZ, badChannels, badShape, areaOf};
+ghost use Rattle.lent.specs.Lent.{before};
+ghost use Rattle.layers.specs.Cells.{cellOf, natOf, outsideZ, badChannels, badShape, sampleCount};
 ghost use Rattle.layers.specs.Faults.{badSource};
 ghost use Rattle.layers.specs.Limits.{columns};
 use crate::Layer;
@@ -31,21 +32,21 @@ pub fn outside(z: i64, lo: i64, hi: i64) -> bool
 // The number in a column of row k.
 pub fn cell(table: &[i64], k: usize, column: usize) -> i64
     requires { ⌜ k * columns + column < length (now table) ⌝ }
-    ensures { λ r. ⌜ r ≡ cellOf (now (table .entry)) k column ⌝ }
+    ensures { λ r. ⌜ r ≡ cellOf (before table) k column ⌝ }
 {
     table[k * Layer::COLUMNS + column]
 }
 
 pub fn natural_at(table: &[i64], k: usize, column: usize) -> usize
     requires { ⌜ k * columns + column < length (now table) ⌝ }
-    ensures { λ r. ⌜ r ≡ natOf (cellOf (now (table .entry)) k column) ⌝ }
+    ensures { λ r. ⌜ r ≡ natOf (cellOf (before table) k column) ⌝ }
 {
     natural(cell(table, k, column))
 }
 
 pub fn outside_at(table: &[i64], k: usize, column: usize, lo: i64, hi: i64) -> bool
     requires { ⌜ k * columns + column < length (now table) ⌝ }
-    ensures { λ r. ⌜ r ≡ outsideZ lo hi (cellOf (now (table .entry)) k column) ⌝ }
+    ensures { λ r. ⌜ r ≡ outsideZ lo hi (cellOf (before table) k column) ⌝ }
 {
     outside(cell(table, k, column), lo, hi)
 }
@@ -83,7 +84,7 @@ pub fn bad_shape(width: i64, height: i64, channels: i64) -> bool
 // The samples of a picture whose shape is in its range.
 pub fn area(width: i64, height: i64, channels: i64) -> usize
     requires { ⌜ badShape width height channels ≡ false ⌝ }
-    ensures { λ r. ⌜ r ≡ areaOf width height channels ⌝ }
+    ensures { λ r. ⌜ r ≡ sampleCount width height channels ⌝ }
 {
     let w = natural(width);
     let h = natural(height);
@@ -94,7 +95,7 @@ pub fn area(width: i64, height: i64, channels: i64) -> usize
 // Whether the source of row k is none, or does not lie in so many samples.
 pub fn bad_source(table: &[i64], k: usize, samples: usize) -> bool
     requires { ⌜ k * columns + columns ≤ length (now table) ⌝ }
-    ensures { λ r. ⌜ r ≡ badSource (now (table .entry)) samples k ⌝ }
+    ensures { λ r. ⌜ r ≡ badSource (before table) samples k ⌝ }
 {
     let first = cell(table, k, Layer::AT_FIRST);
     if first < 0 {

@@ -3,10 +3,11 @@
 ghost use mathlib.Core.Path.{_≡_};
 ghost use Prim.Native.Nat.{_+_, _*_, _<_, _≤_};
 ghost use lib.ListN.{length};
+ghost use Rattle.lent.specs.Lent.{before};
 ghost use Rattle.operators.specs.Numbers.{opOf};
 ghost use Rattle.layers.specs.Cells.{cellOf};
 ghost use Rattle.layers.specs.Faults.{opFault, badPlacing, layerFault};
-ghost use Rattle.layers.specs.Inputs.{inputsOf, badStack, badDst, rowsFault, jobFault};
+ghost use Rattle.layers.specs.Inputs.{inputs, badStack, badDst, rowsFault, jobFault};
 ghost use Rattle.layers.specs.Layers.{flagged, maskOf, sourceAt, argOf, argsAt, layerAt};
 ghost use Rattle.layers.specs.Limits.{columns, argWords, atOperator};
 use faults::Fault;
@@ -93,7 +94,7 @@ impl Source {
     // The source of row k.
     fn at(table: &[i64], k: usize) -> Source
         requires { ⌜ k * columns + columns ≤ length (now table) ⌝ }
-        ensures { λ r. ⌜ r ≡ sourceAt (now (table .entry)) k ⌝ }
+        ensures { λ r. ⌜ r ≡ sourceAt (before table) k ⌝ }
     {
         Source {
             first: cells::natural_at(table, k, Layer::AT_FIRST),
@@ -107,7 +108,7 @@ impl Source {
 // Argument i of layer k, 0 where it is past the count.
 fn arg(args: &[u32], k: usize, count: usize, i: usize) -> u32
     requires { ⌜ (k * argWords + argWords ≤ length (now args)) × (i < argWords) ⌝ }
-    ensures { λ r. ⌜ r ≡ argOf (now (args .entry)) k count i ⌝ }
+    ensures { λ r. ⌜ r ≡ argOf (before args) k count i ⌝ }
 {
     if i < count {
         return args[k * Layer::ARGS + i];
@@ -119,7 +120,7 @@ impl Args {
     // The arguments of layer k, of which so many are read.
     fn at(args: &[u32], k: usize, count: usize) -> Args
         requires { ⌜ k * argWords + argWords ≤ length (now args) ⌝ }
-        ensures { λ r. ⌜ r ≡ argsAt (now (args .entry)) k count ⌝ }
+        ensures { λ r. ⌜ r ≡ argsAt (before args) k count ⌝ }
     {
         Args {
             count: count,
@@ -172,7 +173,7 @@ impl Layer {
     // Layer k, of any row: `fault` tells whether its numbers are in their ranges.
     pub fn at(table: &[i64], args: &[u32], k: usize) -> Layer
         requires { ⌜ (k * columns + columns ≤ length (now table)) × (k * argWords + argWords ≤ length (now args)) ⌝ }
-        ensures { λ r. ⌜ r ≡ layerAt (now (table .entry)) (now (args .entry)) k ⌝ }
+        ensures { λ r. ⌜ r ≡ layerAt (before table) (before args) k ⌝ }
     {
         let op = CompositeOp::at(cells::natural_at(table, k, Self::AT_OPERATOR));
         let gravity = Gravity::from_number(cells::natural_at(table, k, Self::AT_GRAVITY) as u64);
@@ -196,7 +197,7 @@ impl Layer {
     // The fault of what a row's operator names.
     fn operator_fault(table: &[i64], k: usize) -> u64
         requires { ⌜ k * columns + columns ≤ length (now table) ⌝ }
-        ensures { λ r. ⌜ r ≡ opFault (opOf (cellOf (now (table .entry)) k atOperator)) ⌝ }
+        ensures { λ r. ⌜ r ≡ opFault (opOf (cellOf (before table) k atOperator)) ⌝ }
     {
         match CompositeOp::from_number(cells::cell(table, k, Self::AT_OPERATOR)) {
             Numbered::Op(_) => Fault::NONE,
@@ -208,7 +209,7 @@ impl Layer {
     // Whether the gravity or an offset is out of its range.
     fn bad_placing(table: &[i64], k: usize) -> bool
         requires { ⌜ k * columns + columns ≤ length (now table) ⌝ }
-        ensures { λ r. ⌜ r ≡ badPlacing (now (table .entry)) k ⌝ }
+        ensures { λ r. ⌜ r ≡ badPlacing (before table) k ⌝ }
     {
         if cells::outside_at(table, k, Self::AT_GRAVITY, 0, Gravity::LAST as i64) {
             return true;
@@ -222,7 +223,7 @@ impl Layer {
     // The number of the first fault of row k.
     pub fn fault(table: &[i64], k: usize, samples: usize) -> u64
         requires { ⌜ k * columns + columns ≤ length (now table) ⌝ }
-        ensures { λ r. ⌜ r ≡ layerFault (now (table .entry)) samples k ⌝ }
+        ensures { λ r. ⌜ r ≡ layerFault (before table) samples k ⌝ }
     {
         let operator = Self::operator_fault(table, k);
         let placing = Self::bad_placing(table, k);
@@ -275,7 +276,7 @@ fn bad_dst(width: i64, height: i64, channels: i64, dst: usize) -> bool
 // The first fault of so many rows, with its row.
 fn rows_fault(table: &[i64], layers: usize, samples: usize) -> Verdict
     requires { ⌜ layers * columns ≤ length (now table) ⌝ }
-    ensures { λ r. ⌜ r ≡ rowsFault (now (table .entry)) samples 0 layers ⌝ }
+    ensures { λ r. ⌜ r ≡ rowsFault (before table) samples 0 layers ⌝ }
 {
     let mut k = 0;
     while k < layers {
@@ -306,7 +307,7 @@ pub fn check(
     samples: &[u32],
 ) -> Verdict
     ensures { λ r. ⌜
-        r ≡ jobFault (inputsOf width height channels (now (dst .entry)) count (now (table .entry)) (now (args .entry)) (now (samples .entry)))
+        r ≡ jobFault (inputs width height channels dst count table args samples)
         ⌝ }
 {
     if bad_stack(count, table.len(), args.len()) {

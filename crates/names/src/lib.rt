@@ -3,6 +3,7 @@
 ghost use mathlib.Core.Path.{_≡_};
 ghost use Prim.Native.Nat.{_≤_, _<_};
 ghost use lib.ListN.{length};
+ghost use Rattle.lent.specs.Lent.{before};
 ghost use Rattle.names.specs.Names.{isKept, lower, keyOf, same, fromName};
 ghost use Rattle.names.specs.Packed.{total, cut, placeFrom};
 
@@ -45,7 +46,7 @@ fn lowered(b: u8) -> u8
 
 // Whether a text reads as a name.
 fn reads_as(s: &[u8], name: &[u8]) -> bool
-    ensures { λ r. ⌜ r ≡ same (keyOf (now (s .entry))) (now (name .entry)) ⌝ }
+    ensures { λ r. ⌜ r ≡ same (keyOf (before s)) (before name) ⌝ }
 {
     let mut i = 0;
     let mut j = 0;
@@ -74,7 +75,7 @@ fn wide(b: u8) -> usize
 // The place of the first name that a text reads as. The names stand end to end, beside their lengths.
 fn find(s: &[u8], names: &[u8], lengths: &[u8]) -> Place
     requires { ⌜ total (now lengths) ≤ length (now names) ⌝ }
-    ensures { λ r. ⌜ r ≡ placeFrom 0 (keyOf (now (s .entry))) (cut (now (lengths .entry)) (now (names .entry))) ⌝ }
+    ensures { λ r. ⌜ r ≡ placeFrom 0 (keyOf (before s)) (cut (before lengths) (before names)) ⌝ }
 {
     let mut at = 0;
     let mut k = 0;
@@ -91,7 +92,7 @@ fn find(s: &[u8], names: &[u8], lengths: &[u8]) -> Place
 
 // What a text names. The 70 names and the 13 aliases stand end to end, beside their lengths and their operators' numbers, line by line.
 pub fn from_name(s: &[u8]) -> Named
-    ensures { λ r. ⌜ r ≡ fromName (now (s .entry)) ⌝ }
+    ensures { λ r. ⌜ r ≡ fromName (before s) ⌝ }
 {
     let names =
         b"overinoutatopxorplusmultiplyscreenoverlaydarkenlightendifferencehardlightsoftlight\

@@ -12,7 +12,7 @@ use borrow.Author.Tests.{eqb-true}
 use Rattle.layers.specs.Cells.{natOf, badChannels, Channels}
 use Rattle.layers.specs.Faults.{faultIf}
 use Rattle.layers.proofs.Ranges.{channelled, both-fail, not-fails}
-use Rattle.narrowing.specs.Narrow.{narrowedOf, narrowFault, acceptedOf}
+use Rattle.narrowing.specs.Narrow.{narrowedOf, narrowFault, acceptedChannels}
 use Rattle.narrowing.proofs.Narrowed.{length-narrowed}
 
 -- ---- accepted or not
@@ -29,8 +29,8 @@ passed z n m e =
     let p = both-fail (a || b) (not (eqb m (n / 4 * natOf z))) e in
     (channelled z (both-fail a b (p .0) .0) .kind, sym (eqb-true _ _ (not-fails _ (p .1))))
 
-pub refused : (z : ℤ) (n m : ℕ) → acceptedOf z n m ≡ 0 → narrowFault z n m ≡ 11
-unfolding acceptedOf narrowFault
+pub refused : (z : ℤ) (n m : ℕ) → acceptedChannels z n m ≡ 0 → narrowFault z n m ≡ 11
+unfolding acceptedChannels narrowFault
 refused z n m h = by (refuses z n m) refl h
   where
     by : (t : Bool) → refuses z n m ≡ t → cond (eqb (faultIf t 11) 0) (natOf z) 0 ≡ 0 → faultIf t 11 ≡ 11
@@ -44,8 +44,8 @@ pub record Accepted (z : ℤ) (k : ℕ) (input output : List ℕ) : Type 0 where
   pub room : length input / 4 * k ≡ length output
   pub whole : length (narrowedOf k input) ≡ length output
 
-pub accepted : (z : ℤ) (k : ℕ) (input output : List ℕ) → k ≡ acceptedOf z (length input) (length output) → (k ≡ 0 → ⊥) → Accepted z k input output
-unfolding acceptedOf narrowFault
+pub accepted : (z : ℤ) (k : ℕ) (input output : List ℕ) → k ≡ acceptedChannels z (length input) (length output) → (k ≡ 0 → ⊥) → Accepted z k input output
+unfolding acceptedChannels narrowFault
 accepted z k input output asked h = by (refuses z (length input) (length output)) refl asked
   where
     by : (t : Bool) → refuses z (length input) (length output) ≡ t → k ≡ cond (eqb (faultIf t 11) 0) (natOf z) 0 → Accepted z k input output

@@ -10,7 +10,7 @@ use lib.IntN.{ℤ}
 use lib.ListN.{length, getD, take, drop, set, length-set, length-map, drop-of-length-le, List·getD-map}
 use lib.Seq.{paste-suc, take-all}
 use Rattle.layers.specs.Cells.{natOf, Channels}
-use Rattle.narrowing.specs.Narrow.{narrowedOf, narrowFault, narrowed, answered, acceptedOf}
+use Rattle.narrowing.specs.Narrow.{narrowedOf, narrowFault, narrowed, narrowedUnless, acceptedChannels}
 use Rattle.narrowing.proofs.Accepting.{Accepted, accepted, refused}
 
 -- z is wanted and accepted as k channels, and i elements of the output are written
@@ -20,13 +20,13 @@ pub record Filling (step : ℕ → ℕ) (z : ℤ) (k : ℕ) (input old out : Lis
   pub made : out ≡ take i (map step (narrowedOf k input)) ++ drop i old
   pub same : length out ≡ length old
 
-module _ (z : ℤ) (k : ℕ) (input old : List ℕ) (e : k ≡ acceptedOf z (length input) (length old)) where
+module _ (z : ℤ) (k : ℕ) (input old : List ℕ) (e : k ≡ acceptedChannels z (length input) (length old)) where
   pub none-written : (step : ℕ → ℕ) → (k ≡ 0 → ⊥) → Filling step z k input old old 0
   none-written step h = record { asked = accepted z k input old e h; most = omega arith; made = refl; same = refl }
 
   -- the answer where 0 channels are accepted; y is the number z, before the code held it as bits
-  pub answer-refused : {y : ℤ} (new : List ℕ) → z ≡ y → k ≡ 0 → narrowed 11 old ≡ answered (narrowFault y (length input) (length old)) new old
-  unfolding answered
+  pub answer-refused : {y : ℤ} (new : List ℕ) → z ≡ y → k ≡ 0 → narrowed 11 old ≡ narrowedUnless (narrowFault y (length input) (length old)) new old
+  unfolding narrowedUnless
   answer-refused new same h = rw (← same, refused z (length input) (length old) (sym e ∙ h))
 
 module _ (step : ℕ → ℕ) {z : ℤ} {k : ℕ} {input old out : List ℕ} {i : ℕ} (f : Filling step z k input old out i) where
@@ -47,8 +47,8 @@ module _ (step : ℕ → ℕ) {z : ℤ} {k : ℕ} {input old out : List ℕ} {i 
     same = length-set out i v ∙ f .same;
   }
 
-  pub answer-accepted : {y : ℤ} → z ≡ y → length out ≤ i → narrowed 0 out ≡ answered (narrowFault y (length input) (length old)) (map step (narrowedOf (natOf y) input)) old
-  unfolding answered
+  pub answer-accepted : {y : ℤ} → z ≡ y → length out ≤ i → narrowed 0 out ≡ narrowedUnless (narrowFault y (length input) (length old)) (map step (narrowedOf (natOf y) input)) old
+  unfolding narrowedUnless
   answer-accepted same h = rw (← same, f .asked .none, ← f .asked .natural) (ap (narrowed 0) all)
     where
       all : out ≡ map step (narrowedOf k input)

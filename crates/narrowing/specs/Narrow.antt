@@ -53,20 +53,20 @@ abbrev pub narrowed : ℕ → List ℕ → Narrowed
 narrowed number output = record { number = number; output = output }
 
 -- the output is new where there is no fault, and as it was where there is one
-unfoldable pub answered : ℕ → List ℕ → List ℕ → Narrowed
-answered fault new old = narrowed fault (cond (eqb fault NONE) new old)
+unfoldable pub narrowedUnless : ℕ → List ℕ → List ℕ → Narrowed
+narrowedUnless fault new old = narrowed fault (cond (eqb fault NONE) new old)
 
 -- the input narrowed into the output, as words and as bytes
 abbrev pub narrowOf : ℤ → List ℕ → List ℕ → Narrowed
 narrowOf wanted input output =
-    answered (narrowFault wanted (length input) (length output)) (narrowedOf (natOf wanted) input) output
+    narrowedUnless (narrowFault wanted (length input) (length output)) (narrowedOf (natOf wanted) input) output
 
 abbrev pub narrowBytesOf : ℤ → List ℕ → List ℕ → Narrowed
 narrowBytesOf wanted input output =
-    answered (narrowFault wanted (length input) (length output)) (bytesOf (narrowedOf (natOf wanted) input)) output
+    narrowedUnless (narrowFault wanted (length input) (length output)) (bytesOf (narrowedOf (natOf wanted) input)) output
 
 -- ---- what the code works with
 
 -- the channels wanted; 0 where there is a fault
-unfoldable pub acceptedOf : ℤ → ℕ → ℕ → ℕ
-acceptedOf wanted input output = cond (eqb (narrowFault wanted input output) NONE) (natOf wanted) 0
+unfoldable pub acceptedChannels : ℤ → ℕ → ℕ → ℕ
+acceptedChannels wanted input output = cond (eqb (narrowFault wanted input output) NONE) (natOf wanted) 0

@@ -4,9 +4,10 @@
 ghost use mathlib.Core.Path.{_≡_};
 ghost use Prim.Native.Nat.{_*_, _/_, _<_};
 ghost use lib.ListN.{length, getD};
+ghost use Rattle.lent.specs.Lent.{before, after};
 ghost use Rattle.layers.specs.Cells.{Channels};
 ghost use Rattle.narrowing.specs.Luma.{lumaOf};
-ghost use Rattle.narrowing.specs.Narrow.{narrowedOf, narrowed, narrowOf, narrowBytesOf, acceptedOf};
+ghost use Rattle.narrowing.specs.Narrow.{narrowedOf, narrowed, narrowOf, narrowBytesOf, acceptedChannels};
 use faults::Fault;
 use float_steps::whole::byte;
 use float_steps::words::value;
@@ -29,7 +30,7 @@ pub fn luma(p: Rgba) -> f32
 // A word that is kept, with all its bits.
 fn kept(input: &[u32], at: usize) -> u32
     requires { ⌜ at < length (now input) ⌝ }
-    ensures { λ r. ⌜ r ≡ getD (now (input .entry)) at 0 ⌝ }
+    ensures { λ r. ⌜ r ≡ getD (before input) at 0 ⌝ }
 {
     input[at]
 }
@@ -37,7 +38,7 @@ fn kept(input: &[u32], at: usize) -> u32
 // Word i of the narrowed picture.
 fn narrowed_at(channels: usize, input: &[u32], i: usize) -> u32
     requires { ⌜ Channels channels × (i < length (now input) / 4 * channels) ⌝ }
-    ensures { λ r. ⌜ r ≡ getD (narrowedOf channels (now (input .entry))) i 0 ⌝ }
+    ensures { λ r. ⌜ r ≡ getD (narrowedOf channels (before input)) i 0 ⌝ }
 {
     if channels == 1 {
         return word(luma(values(rgba_at(input, 4, i))));
@@ -49,8 +50,8 @@ fn narrowed_at(channels: usize, input: &[u32], i: usize) -> u32
 }
 
 // The channels wanted; 0 where they, or the lengths of the input and the output, are refused.
-fn accepted(wanted: i64, input: usize, output: usize) -> usize
-    ensures { λ r. ⌜ r ≡ acceptedOf wanted input output ⌝ }
+fn accepted_channels(wanted: i64, input: usize, output: usize) -> usize
+    ensures { λ r. ⌜ r ≡ acceptedChannels wanted input output ⌝ }
 {
     if cells::bad_channels(wanted) {
         return 0;
@@ -68,9 +69,9 @@ fn accepted(wanted: i64, input: usize, output: usize) -> usize
 
 // The input narrowed to the channels wanted.
 pub fn narrow(wanted: i64, input: &[u32], output: &mut [u32]) -> u64
-    ensures { λ r. ⌜ narrowed r (now (output .exit)) ≡ narrowOf wanted (now (input .entry)) (now (output .entry)) ⌝ }
+    ensures { λ r. ⌜ narrowed r (after output) ≡ narrowOf wanted (before input) (before output) ⌝ }
 {
-    let channels = accepted(wanted, input.len(), output.len());
+    let channels = accepted_channels(wanted, input.len(), output.len());
     if channels == 0 {
         return REFUSED;
     }
@@ -84,9 +85,9 @@ pub fn narrow(wanted: i64, input: &[u32], output: &mut [u32]) -> u64
 
 // The same as bytes.
 pub fn narrow_bytes(wanted: i64, input: &[u32], output: &mut [u8]) -> u64
-    ensures { λ r. ⌜ narrowed r (now (output .exit)) ≡ narrowBytesOf wanted (now (input .entry)) (now (output .entry)) ⌝ }
+    ensures { λ r. ⌜ narrowed r (after output) ≡ narrowBytesOf wanted (before input) (before output) ⌝ }
 {
-    let channels = accepted(wanted, input.len(), output.len());
+    let channels = accepted_channels(wanted, input.len(), output.len());
     if channels == 0 {
         return REFUSED;
     }

@@ -3,7 +3,7 @@
 use mathlib.Core.Bool.{Bool, cond, _||_}
 use lib.Dec.{ltb}
 use lib.IntN.{ℤ, pos, negsuc}
-use Rattle.operators.specs.Operators.{count, opAt, same}
+use Rattle.operators.specs.Operators.{count, opAt, sameOp}
 use Rattle.operators.specs.declared.CompositeOp.{CompositeOp}
 use Rattle.operators.specs.declared.CompositeOp.the-variants.{Interpolate, Blur}
 use Rattle.operators.specs.declared.Numbered.{Numbered}
@@ -11,7 +11,7 @@ use Rattle.operators.specs.declared.Numbered.the-variants.{Op, Unknown, 
 
 -- the two that are not carried
 abbrev pub curve : CompositeOp → Bool
-curve o = same o Interpolate || same o Blur
+curve o = sameOp o Interpolate || sameOp o Blur
 
 -- what an operator's number names
 unfoldable pub named : CompositeOp → Numbered

@@ -126,9 +126,9 @@ abbrev pub opAt : ℕ → CompositeOp
 opAt n = getD operators n O.Over
 
 -- one operator is another
-abbrev pub same : CompositeOp → CompositeOp → Bool
-same o p = eqb (numberOf o) (numberOf p)
+abbrev pub sameOp : CompositeOp → CompositeOp → Bool
+sameOp o p = eqb (numberOf o) (numberOf p)
 
 -- the operators that read the source as a map rather than as a picture to blend
 abbrev pub isMap : CompositeOp → Bool
-isMap o = same o O.Displace || same o O.Distort || same o O.Blur
+isMap o = sameOp o O.Displace || sameOp o O.Distort || sameOp o O.Blur

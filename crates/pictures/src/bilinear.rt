@@ -2,6 +2,7 @@
 ghost use mathlib.Core.Path.{_≡_};
 ghost use Prim.Native.Nat.{_+_, _*_, _≤_, _<_};
 ghost use lib.ListN.{length};
+ghost use Rattle.lent.specs.Lent.{before};
 ghost use Rattle.pictures.specs.Widen.{rgbaAt, valuesOf};
 ghost use Rattle.pictures.specs.Bilinear.{channelsOf, neighboursOf, mixedOf, mixOf, bilinearOf, InPicture};
 use crate::Rgba;
@@ -13,7 +14,7 @@ use float_steps::axis::locate;
 // The four values of the pixel in column x of row y.
 fn channels_at(picture: &[u32], channels: usize, w: usize, h: usize, x: usize, y: usize) -> [f32; 4]
     requires { ⌜ (1 ≤ channels) × (channels ≤ 4) × (x < w) × (y < h) × (length (now picture) ≡ w * h * channels) ⌝ }
-    ensures { λ r. ⌜ r ≡ channelsOf (valuesOf (rgbaAt (now (picture .entry)) channels (y * w + x))) ⌝ }
+    ensures { λ r. ⌜ r ≡ channelsOf (valuesOf (rgbaAt (before picture) channels (y * w + x))) ⌝ }
 {
     let p = values(rgba_at(picture, channels, y * w + x));
     [p.r, p.g, p.b, p.a]
@@ -29,7 +30,7 @@ pub fn neighbours(
     y: Axis,
 ) -> [[f32; 4]; 4]
     requires { ⌜ InPicture (now picture) channels w h x y ⌝ }
-    ensures { λ r. ⌜ r ≡ neighboursOf (λ j. valuesOf (rgbaAt (now (picture .entry)) channels j)) w x y ⌝ }
+    ensures { λ r. ⌜ r ≡ neighboursOf (λ j. valuesOf (rgbaAt (before picture) channels j)) w x y ⌝ }
 {
     let x0 = x.at;
     let x1 = x.next;
@@ -68,7 +69,7 @@ pub fn mix(p: [[f32; 4]; 4], fx: f32, fy: f32) -> Rgba
 // A picture of w by h pixels, neither side 0 or past 2^24, read at (x, y).
 pub fn bilinear(picture: &[u32], channels: usize, w: usize, h: usize, x: f32, y: f32) -> Rgba
     requires { ⌜ (1 ≤ channels) × (channels ≤ 4) × (1 ≤ w) × (w ≤ 0x100_0000) × (1 ≤ h) × (h ≤ 0x100_0000) × (length (now picture) ≡ w * h * channels) ⌝ }
-    ensures { λ r. ⌜ r ≡ bilinearOf (λ j. valuesOf (rgbaAt (now (picture .entry)) channels j)) w h x y ⌝ }
+    ensures { λ r. ⌜ r ≡ bilinearOf (λ j. valuesOf (rgbaAt (before picture) channels j)) w h x y ⌝ }
 {
     let ax = locate(x, w);
     let ay = locate(y, h);

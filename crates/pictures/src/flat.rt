@@ -2,6 +2,7 @@
 ghost use mathlib.Core.Path.{_≡_};
 ghost use Prim.Native.Nat.{_+_, _*_, _≤_, _<_};
 ghost use lib.ListN.{length};
+ghost use Rattle.lent.specs.Lent.{before, after};
 ghost use Rattle.pictures.specs.Widen.{rgbaAt};
 ghost use Rattle.pictures.specs.FlatWords.{filled, putOf};
 use crate::Words;
@@ -10,7 +11,7 @@ use crate::widen::rgba_at;
 // Pixel i is replaced.
 pub fn put(out: &mut [u32], i: usize, w: Words)
     requires { ⌜ 4 * i + 3 < length (now out) ⌝ }
-    ensures { λ _. ⌜ now (out .exit) ≡ putOf (now (out .entry)) i w ⌝ }
+    ensures { λ _. ⌜ after out ≡ putOf (before out) i w ⌝ }
 {
     let at = 4 * i;
     out[at] = w.r;
@@ -22,7 +23,7 @@ pub fn put(out: &mut [u32], i: usize, w: Words)
 // Pixels from .. from + count of a picture, widened, at the front of out.
 pub fn widen(picture: &[u32], channels: usize, from: usize, count: usize, out: &mut [u32])
     requires { ⌜ (1 ≤ channels) × (channels ≤ 4) × (channels * (from + count) ≤ length (now picture)) × (4 * count ≤ length (now out)) ⌝ }
-    ensures { λ _. ⌜ now (out .exit) ≡ filled (λ i. rgbaAt (now (picture .entry)) channels (from + i)) count (now (out .entry)) ⌝ }
+    ensures { λ _. ⌜ after out ≡ filled (λ i. rgbaAt (before picture) channels (from + i)) count (before out) ⌝ }
 {
     let mut i = 0;
     while i < count {

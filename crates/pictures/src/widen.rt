@@ -2,6 +2,7 @@
 ghost use mathlib.Core.Path.{_≡_};
 ghost use Prim.Native.Nat.{_+_, _*_, _≤_, _<_};
 ghost use lib.ListN.{length};
+ghost use Rattle.lent.specs.Lent.{before};
 ghost use Rattle.pictures.specs.Widen.{fourAt, threeAt, oneAt, rgbaAt, valuesOf};
 use crate::Rgba;
 use crate::Words;
@@ -13,7 +14,7 @@ const OPAQUE: u32 = 0x3f80_0000;
 // The pixel whose words begin at a place of the picture, by its channels.
 fn four_at(picture: &[u32], at: usize) -> Words
     requires { ⌜ at + 4 ≤ length (now picture) ⌝ }
-    ensures { λ r. ⌜ r ≡ fourAt (now (picture .entry)) at ⌝ }
+    ensures { λ r. ⌜ r ≡ fourAt (before picture) at ⌝ }
 {
     Words {
         r: picture[at],
@@ -25,7 +26,7 @@ fn four_at(picture: &[u32], at: usize) -> Words
 
 fn three_at(picture: &[u32], at: usize) -> Words
     requires { ⌜ at + 3 ≤ length (now picture) ⌝ }
-    ensures { λ r. ⌜ r ≡ threeAt (now (picture .entry)) at ⌝ }
+    ensures { λ r. ⌜ r ≡ threeAt (before picture) at ⌝ }
 {
     Words {
         r: picture[at],
@@ -37,7 +38,7 @@ fn three_at(picture: &[u32], at: usize) -> Words
 
 fn one_at(picture: &[u32], at: usize) -> Words
     requires { ⌜ at < length (now picture) ⌝ }
-    ensures { λ r. ⌜ r ≡ oneAt (now (picture .entry)) at ⌝ }
+    ensures { λ r. ⌜ r ≡ oneAt (before picture) at ⌝ }
 {
     let gray = picture[at];
     Words {
@@ -51,7 +52,7 @@ fn one_at(picture: &[u32], at: usize) -> Words
 // Pixel j of a picture of four, three or one channels.
 pub fn rgba_at(picture: &[u32], channels: usize, j: usize) -> Words
     requires { ⌜ (1 ≤ channels) × (channels ≤ 4) × (channels * j + channels ≤ length (now picture)) ⌝ }
-    ensures { λ r. ⌜ r ≡ rgbaAt (now (picture .entry)) channels j ⌝ }
+    ensures { λ r. ⌜ r ≡ rgbaAt (before picture) channels j ⌝ }
 {
     let at = channels * j;
     if channels == 4 {

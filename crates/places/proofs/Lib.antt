@@ -1,3 +1,3 @@
 pub mod Anchors
 pub mod Signed
-pub mod Spots
+pub mod Indices

@@ -1,11 +1,11 @@
 -- The bounds under which placing is asked for. They are slack: a job's sides and offsets are far below them, and its limits
--- can be raised without touching what is proved here. The definitions of Placement and Spots hold without any bound.
+-- can be raised without touching what is proved here. The definitions of Placement and Indices hold without any bound.
 use Prim.Native.Nat.{ℕ, _<_, _≤_}
 use lib.IntN.{ℤ}
 use lib.Signed.{mag}
 use Rattle.places.specs.declared.Corner.{Corner}
-use Rattle.places.specs.declared.Spot.{Spot}
-use Rattle.places.specs.declared.Spot.the-variants.{At, Off}
+use Rattle.places.specs.declared.Index.{Index}
+use Rattle.places.specs.declared.Index.the-variants.{At, Off}
 
 -- a bound of sides and offsets, 2^24
 abbrev pub slack : ℕ
@@ -16,7 +16,7 @@ abbrev pub reach : ℕ
 reach = 67108864
 
 -- a coordinate is below a bound; none is
-abbrev pub Under : ℕ → Spot → Type 0
+abbrev pub Under : ℕ → Index → Type 0
 Under n (At i) = i < n
 Under n Off = Unit
 

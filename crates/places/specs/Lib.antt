@@ -1,4 +1,4 @@
 pub mod Bounds
 pub mod Gravities
 pub mod Placement
-pub mod Spots
+pub mod Indices

@@ -1,5 +1,5 @@
 // Where a source lands on the destination: the gravities of gravity_translate.rs, `placement` of composite.rs, and the
-// source's coordinate at a destination pixel. The contracts cite specs/Gravities, specs/Placement and specs/Spots.
+// source's coordinate at a destination pixel. The contracts cite specs/Gravities, specs/Placement and specs/Indices.
 ghost use mathlib.Core.Path.{_≡_};
 ghost use Prim.Native.Nat.{_<_, _≤_};
 ghost use lib.IntN.{ℤ, pos, _+ℤ_, _-ℤ_};
@@ -7,7 +7,7 @@ ghost use lib.Signed.{quotZ, mag};
 ghost use Rattle.places.specs.Bounds.{slack, reach, Under, Measured, Reached};
 ghost use Rattle.places.specs.Gravities.{gravityAt, acrossOf, downwardOf};
 ghost use Rattle.places.specs.Placement.{startOf, placementOf};
-ghost use Rattle.places.specs.Spots.{remEuclid, insideOf, spotOf, tiles, indexOf, sourceIndex};
+ghost use Rattle.places.specs.Indices.{remEuclid, insideOf, axisIndex, tiles, pixelIndex, sourceIndex};
 
 // The nine points of gravity_translate.rs; `Unset` is composite.rs's `None`. The order is that of their numbers.
 pub enum Gravity {
@@ -37,7 +37,7 @@ pub struct Corner {
 }
 
 // A coordinate, or a pixel's index, of the source; `Off` where the source has none.
-pub enum Spot {
+pub enum Index {
     At(usize),
     Off,
 }
@@ -182,30 +182,30 @@ fn rem_euclid(z: i64, m: usize) -> usize
 }
 
 // A number that is itself a coordinate of a side.
-fn inside(z: i64, side: usize) -> Spot
+fn inside(z: i64, side: usize) -> Index
     ensures { λ r. ⌜ r ≡ insideOf side z ⌝ }
 {
     if z < 0 {
-        return Spot::Off;
+        return Index::Off;
     }
     let n = z as usize;
     if n < side {
-        return Spot::At(n);
+        return Index::At(n);
     }
-    Spot::Off
+    Index::Off
 }
 
 // The source's coordinate along one axis, at a destination coordinate.
-pub fn spot_at(tile: bool, side: usize, x: usize, start: i64) -> Spot
+pub fn axis_index(tile: bool, side: usize, x: usize, start: i64) -> Index
     requires { ⌜ (x ≤ slack) × (mag start ≤ reach) ⌝ }
-    ensures { λ r. ⌜ r ≡ spotOf tile side (pos x -ℤ start) ⌝ }
+    ensures { λ r. ⌜ r ≡ axisIndex tile side (pos x -ℤ start) ⌝ }
 {
     let z = from_start(x, start);
     if side == 0 {
-        return Spot::Off;
+        return Index::Off;
     }
     if tile {
-        return Spot::At(rem_euclid(z, side));
+        return Index::At(rem_euclid(z, side));
     }
     inside(z, side)
 }
@@ -224,26 +224,26 @@ pub fn repeats(tile: bool, sw: usize, sh: usize) -> bool
 }
 
 // The index, row by row, of the pixel at a column and a row of a source that is sw wide.
-fn index(sw: usize, column: Spot, row: Spot) -> Spot
+fn pixel_index(sw: usize, column: Index, row: Index) -> Index
     requires { ⌜ (sw ≤ slack) × Under slack column × Under slack row ⌝ }
-    ensures { λ r. ⌜ r ≡ indexOf sw column row ⌝ }
+    ensures { λ r. ⌜ r ≡ pixelIndex sw column row ⌝ }
 {
     match column {
-        Spot::Off => Spot::Off,
-        Spot::At(sx) => match row {
-            Spot::Off => Spot::Off,
-            Spot::At(sy) => Spot::At(sy * sw + sx),
+        Index::Off => Index::Off,
+        Index::At(sx) => match row {
+            Index::Off => Index::Off,
+            Index::At(sy) => Index::At(sy * sw + sx),
         },
     }
 }
 
 // The index of the source's pixel that lies on the destination pixel (x, y).
-pub fn source_index(tile: bool, sw: usize, sh: usize, corner: Corner, x: usize, y: usize) -> Spot
+pub fn source_index(tile: bool, sw: usize, sh: usize, corner: Corner, x: usize, y: usize) -> Index
     requires { ⌜ Reached sw sh corner x y ⌝ }
     ensures { λ r. ⌜ r ≡ sourceIndex tile sw sh corner x y ⌝ }
 {
     let t = repeats(tile, sw, sh);
-    let column = spot_at(t, sw, x, corner.x);
-    let row = spot_at(t, sh, y, corner.y);
-    index(sw, column, row)
+    let column = axis_index(t, sw, x, corner.x);
+    let row = axis_index(t, sh, y, corner.y);
+    pixel_index(sw, column, row)
 }

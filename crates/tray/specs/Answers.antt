@@ -3,7 +3,7 @@ use mathlib.Core.Bool.{cond}
 use mathlib.Core.List.{List}
 use Prim.Native.Nat.{ℕ}
 use Rattle.faults.specs.Faults.{NONE, OPERATOR}
-use Rattle.job.specs.Memory.{Mem, memOf}
+use Rattle.job.specs.Memory.{Mem}
 use Rattle.job.specs.Call.{Outcome}
 use Rattle.names.specs.declared.Named.{Named}
 use Rattle.names.specs.declared.Named.the-variants.{Operator, Unknown}
@@ -29,9 +29,9 @@ pub record HostOutcome : Type 0 where
   pub stores : ℕ
   pub finished : ℕ
 
-abbrev pub hostOutcome : List ℕ → List ℕ → List ℕ → ℕ → ℕ → ℕ → ℕ → HostOutcome
-hostOutcome work0 work1 checkpoint number layer stores finished = record {
-  mem = memOf work0 work1 checkpoint;
+abbrev pub hostOutcome : Mem → (number layer stores finished : ℕ) → HostOutcome
+hostOutcome mem number layer stores finished = record {
+  mem = mem;
   number = number;
   layer = layer;
   stores = stores;

@@ -3,11 +3,12 @@
 ghost use mathlib.Core.Path.{_≡_};
 ghost use mathlib.Core.Bool.{cond};
 ghost use lib.IntN.{pos};
+ghost use Rattle.lent.specs.Lent.{before, after};
 ghost use Rattle.names.specs.Names.{fromName};
-ghost use Rattle.layers.specs.Inputs.{inputsOf};
-ghost use Rattle.compose.specs.Single.{answered, composeOf};
+ghost use Rattle.layers.specs.Inputs.{inputs};
+ghost use Rattle.compose.specs.Single.{composed, composeOf};
 ghost use Rattle.narrowing.specs.Narrow.{narrowed, narrowOf, narrowBytesOf};
-ghost use Rattle.job.specs.Memory.{memOf};
+ghost use Rattle.job.specs.Memory.{found, left};
 ghost use Rattle.job.specs.Call.{callOf};
 ghost use Rattle.tray.specs.Answers.{named, nameOf, jobOutcome, hostOutcome};
 use faults::Fault;
@@ -26,7 +27,7 @@ fn flag(b: bool) -> u64
 // The operator that a name spells: 0 with its number in `operator`; or 3, with `operator` as it was.
 #[no_mangle]
 pub extern "C" fn tray_from_name(name: &[u8], operator: &mut u64) -> u64
-    ensures { λ r. ⌜ named r (now (operator .exit)) ≡ nameOf (fromName (now (name .entry))) (now (operator .entry)) ⌝ }
+    ensures { λ r. ⌜ named r (after operator) ≡ nameOf (fromName (before name)) (before operator) ⌝ }
 {
     match names::from_name(name) {
         Named::Operator(n) => {
@@ -49,7 +50,7 @@ pub extern "C" fn tray_compose(
     samples: &[u32],
     out: &mut [u32],
 ) -> u64
-    ensures { λ r. ⌜ answered r (now (out .exit)) ≡ composeOf (inputsOf width height channels (now (dst .entry)) (pos 1) (now (table .entry)) (now (args .entry)) (now (samples .entry))) (now (out .entry)) ⌝ }
+    ensures { λ r. ⌜ composed r (after out) ≡ composeOf (inputs width height channels dst (pos 1) table args samples) (before out) ⌝ }
 {
     compose::single::compose(width, height, channels, dst, table, args, samples, out)
 }
@@ -57,7 +58,7 @@ pub extern "C" fn tray_compose(
 // A picture of four channels narrowed to one, three or four: 0 and the whole output; or 11, with the output as it was.
 #[no_mangle]
 pub extern "C" fn tray_narrow(wanted: i64, input: &[u32], output: &mut [u32]) -> u64
-    ensures { λ r. ⌜ narrowed r (now (output .exit)) ≡ narrowOf wanted (now (input .entry)) (now (output .entry)) ⌝ }
+    ensures { λ r. ⌜ narrowed r (after output) ≡ narrowOf wanted (before input) (before output) ⌝ }
 {
     narrowing::narrow(wanted, input, output)
 }
@@ -65,7 +66,7 @@ pub extern "C" fn tray_narrow(wanted: i64, input: &[u32], output: &mut [u32]) ->
 // The same as bytes.
 #[no_mangle]
 pub extern "C" fn tray_narrow_bytes(wanted: i64, input: &[u32], output: &mut [u8]) -> u64
-    ensures { λ r. ⌜ narrowed r (now (output .exit)) ≡ narrowBytesOf wanted (now (input .entry)) (now (output .entry)) ⌝ }
+    ensures { λ r. ⌜ narrowed r (after output) ≡ narrowBytesOf wanted (before input) (before output) ⌝ }
 {
     narrowing::narrow_bytes(wanted, input, output)
 }
@@ -91,8 +92,8 @@ pub extern "C" fn tray_job(
     finished: &mut u64,
 ) -> u64
     ensures { λ r. ⌜
-        hostOutcome (now (work0 .exit)) (now (work1 .exit)) (now (checkpoint .exit)) r (now (layer .exit)) (now (stores .exit)) (now (finished .exit))
-        ≡ jobOutcome (callOf (inputsOf width height channels (now (dst .entry)) layers (now (table .entry)) (now (args .entry)) (now (samples .entry))) allowance (memOf (now (work0 .entry)) (now (work1 .entry)) (now (checkpoint .entry))))
+        hostOutcome (left work0 work1 checkpoint) r (after layer) (after stores) (after finished)
+        ≡ jobOutcome (callOf (inputs width height channels dst layers table args samples) allowance (found work0 work1 checkpoint))
         ⌝ }
 {
     let a = job::call::run(

@@ -18,10 +18,10 @@ use Rattle.operators.specs.Numbers.{named}
 use Rattle.operators.specs.declared.CompositeOp.{CompositeOp}
 use Rattle.operators.specs.declared.CompositeOp.the-variants as O
 use Rattle.places.specs.Placement.{placementOf}
-use Rattle.places.specs.Spots.{spotOf}
+use Rattle.places.specs.Indices.{axisIndex}
 use Rattle.places.specs.declared.Gravity.the-variants.{Centre}
-use Rattle.places.specs.declared.Spot.{Spot}
-use Rattle.places.specs.declared.Spot.the-variants.{At, Off}
+use Rattle.places.specs.declared.Index.{Index}
+use Rattle.places.specs.declared.Index.the-variants.{At, Off}
 use Rattle.names.specs.Names.{bytes, entries, isKept, lower, fromName}
 use Rattle.pictures.specs.declared.Rgba.{Rgba}
 use Rattle.blends.specs.Blends.{colorBurnOf}
@@ -33,7 +33,7 @@ use Rattle.layers.specs.Inputs.{Inputs, inputsOf, badStack, badDst, rowsFault, 
 use Rattle.job.specs.declared.Answer.{Answer}
 use Rattle.job.specs.Memory.{Mem, memOf, positionOf, stored}
 use Rattle.job.specs.Job.{memoryFault, callFault}
-use Rattle.job.specs.Call.{writeAt, runOf, acceptedOf, callOf}
+use Rattle.job.specs.Call.{writeAt, runOf, acceptedChannels, callOf}
 use Rattle.job.specs.Model.{blocks, pictureWrites, writeSequence, Call, allowed, Seen, modelOf}
 use Rattle.job.specs.Demand.{programOf, history}
 use Rattle.tray.specs.Answers.{NameAnswer, nameOf}
@@ -69,7 +69,7 @@ sameInteger (pos m) (negsuc n) = false
 sameInteger (negsuc m) (pos n) = false
 sameInteger (negsuc m) (negsuc n) = eqb m n
 
-abbrev pub isAt : Spot → ℕ → Bool
+abbrev pub isAt : Index → ℕ → Bool
 isAt (At m) n = eqb m n
 isAt Off n = false
 
@@ -114,7 +114,7 @@ holds (roots v r) = eqb (wordOf (sqrtOf (valueOf v))) r
 holds (byte v r) = eqb (byteOf (valueOf v)) r
 holds (pixel op s d r) = sameWords (pixelOf op unused (pixelAt s) (pixelAt d)) r
 holds (centre dst src r) = sameInteger (placementOf Centre dst dst src src (pos 0) (pos 0) .x) r
-holds (tile offset width column r) = isAt (spotOf true width (pos column -ℤ pos offset)) r
+holds (tile offset width column r) = isAt (axisIndex true width (pos column -ℤ pos offset)) r
 holds (name text r) = sameAnswer (nameAnswer text) NONE r
 holds (job allowances r) = sameList (calls (programOf twoByOne) allowances) r && sameList (calls (modelOf twoByOne) allowances) r
 holds (unknown text r) = sameAnswer (nameAnswer text) r 70
@@ -159,5 +159,5 @@ table =
     ∷ []
 
 pub trials : T (all table)
-unfolding wrapOf remEuclidOf sqrtOf byteOf smallerOf clampOf colorBurnOf overUnionOf overBy placementOf spotOf fromName entries isKept lower history programOf modelOf writeSequence pictureWrites blocks stored callOf acceptedOf callFault memoryFault jobFault badStack badDst rowsFault layerFault named badPlacing badSource badShape badChannels outsideZ natOf runOf writeAt ofBits toBits add sub mul div rem lt le eq isNan
+unfolding wrapOf remEuclidOf sqrtOf byteOf smallerOf clampOf colorBurnOf overUnionOf overBy placementOf axisIndex fromName entries isKept lower history programOf modelOf writeSequence pictureWrites blocks stored callOf acceptedChannels callFault memoryFault jobFault badStack badDst rowsFault layerFault named badPlacing badSource badShape badChannels outsideZ natOf runOf writeAt ofBits toBits add sub mul div rem lt le eq isNan
 trials = tt

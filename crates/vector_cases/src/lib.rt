@@ -2,6 +2,7 @@
 // after the line's last token, or NOWHERE where the line is malformed or its answer is another.
 ghost use mathlib.Core.Path.{_≡_};
 ghost use lib.IntN.{pos};
+ghost use Rattle.lent.specs.Lent.{before, after};
 ghost use Rattle.vector_lines.specs.Numbers.{largest, numberAt};
 ghost use Rattle.names.specs.Names.{fromName};
 ghost use Rattle.narrowing.specs.Narrow.{narrowOf, narrowBytesOf};
@@ -42,7 +43,7 @@ const FILL_BYTE: u8 = 0xa5;
 
 // F NAME: number operator.
 pub fn name(line: &[u8]) -> usize
-    ensures { λ r. ⌜ r ≡ nameAt (now (line .entry)) ⌝ }
+    ensures { λ r. ⌜ r ≡ nameAt (before line) ⌝ }
 {
     let mut text = [0u8; 128];
     let mut count: usize = 0;
@@ -51,7 +52,7 @@ pub fn name(line: &[u8]) -> usize
 }
 
 fn named(line: &[u8], at: usize, text: &[u8]) -> usize
-    ensures { λ r. ⌜ r ≡ namedAt (now (line .entry)) at (nameOf (fromName (now (text .entry))) 0) ⌝ }
+    ensures { λ r. ⌜ r ≡ namedAt (before line) at (nameOf (fromName (before text)) 0) ⌝ }
 {
     let mut operator: u64 = 0;
     let answer = tray::tray_from_name(text, &mut operator);
@@ -60,9 +61,9 @@ fn named(line: &[u8], at: usize, text: &[u8]) -> usize
 
 // N or B, to words or to bytes, wanted INPUT length: number OUT.
 pub fn narrowing(line: &[u8], as_bytes: bool, input: &mut Picture, count: &mut usize) -> usize
-    ensures { λ r. ⌜ r ≡ narrowingAt «as_bytes» (now (line .entry)) (now (input .entry)) (now (count .entry)) ⌝ }
-    ensures { λ _. ⌜ now (input .exit) ≡ inputAt (now (line .entry)) (now (input .entry)) (now (count .entry)) .list ⌝ }
-    ensures { λ _. ⌜ now (count .exit) ≡ inputAt (now (line .entry)) (now (input .entry)) (now (count .entry)) .count ⌝ }
+    ensures { λ r. ⌜ r ≡ narrowingAt «as_bytes» (before line) (before input) (before count) ⌝ }
+    ensures { λ _. ⌜ after input ≡ inputAt (before line) (before input) (before count) .list ⌝ }
+    ensures { λ _. ⌜ after count ≡ inputAt (before line) (before input) (before count) .count ⌝ }
 {
     let wanted = signed(line, 1);
     let length = number(line, words(line, wanted.next, input, count));
@@ -81,14 +82,14 @@ pub fn narrowing(line: &[u8], as_bytes: bool, input: &mut Picture, count: &mut u
 }
 
 fn narrowed(line: &[u8], at: usize, wanted: i64, input: &[u32], out: &mut [u32]) -> usize
-    ensures { λ r. ⌜ r ≡ narrowedAt (now (line .entry)) at (narrowOf wanted (now (input .entry)) (now (out .entry))) ⌝ }
+    ensures { λ r. ⌜ r ≡ narrowedAt (before line) at (narrowOf wanted (before input) (before out)) ⌝ }
 {
     let answer = tray::tray_narrow(wanted, input, out);
     written(line, expect(line, at, answer), out)
 }
 
 fn narrowed_bytes(line: &[u8], at: usize, wanted: i64, input: &[u32], out: &mut [u8]) -> usize
-    ensures { λ r. ⌜ r ≡ narrowedBytesAt (now (line .entry)) at (narrowBytesOf wanted (now (input .entry)) (now (out .entry))) ⌝ }
+    ensures { λ r. ⌜ r ≡ narrowedBytesAt (before line) at (narrowBytesOf wanted (before input) (before out)) ⌝ }
 {
     let answer = tray::tray_narrow_bytes(wanted, input, out);
     written_bytes(line, expect(line, at, answer), out)
@@ -96,7 +97,7 @@ fn narrowed_bytes(line: &[u8], at: usize, wanted: i64, input: &[u32], out: &mut 
 
 // The place after an output that must be as `out` is.
 fn written(line: &[u8], at: usize, out: &[u32]) -> usize
-    ensures { λ r. ⌜ r ≡ writtenAt 4294967295 2779096485 (now (line .entry)) at (now (out .entry)) ⌝ }
+    ensures { λ r. ⌜ r ≡ writtenAt 4294967295 2779096485 (before line) at (before out) ⌝ }
 {
     let mut due = [FILL; OUT];
     let mut count = out.len();
@@ -105,7 +106,7 @@ fn written(line: &[u8], at: usize, out: &[u32]) -> usize
 }
 
 fn written_bytes(line: &[u8], at: usize, out: &[u8]) -> usize
-    ensures { λ r. ⌜ r ≡ writtenAt 255 165 (now (line .entry)) at (now (out .entry)) ⌝ }
+    ensures { λ r. ⌜ r ≡ writtenAt 255 165 (before line) at (before out) ⌝ }
 {
     let mut due = [FILL_BYTE; OUT];
     let mut count = out.len();
@@ -122,7 +123,7 @@ pub fn composition(
     samples: &mut Samples,
     counts: &mut Counts,
 ) -> usize
-    ensures { λ r. ⌜ composing r (now (dst .exit)) (now (table .exit)) (now (args .exit)) (now (samples .exit)) (now (counts .exit)) ≡ compositionAt (now (line .entry)) (composing 0 (now (dst .entry)) (now (table .entry)) (now (args .entry)) (now (samples .entry)) (now (counts .entry))) ⌝ }
+    ensures { λ r. ⌜ composing r (after dst) (after table) (after args) (after samples) (after counts) ≡ compositionAt (before line) (composing 0 (before dst) (before table) (before args) (before samples) (before counts)) ⌝ }
 {
     let shape = shape_of(line);
     let after_dst = words(line, shape.next, dst, &mut counts[AT_DST]);
@@ -147,7 +148,7 @@ fn composed(
     args: &[u32],
     samples: &[u32],
 ) -> usize
-    ensures { λ r. ⌜ r ≡ composedBy (now (line .entry)) (inputsOf (shape .width) (shape .height) (shape .channels) (now (dst .entry)) (pos 1) (now (table .entry)) (now (args .entry)) (now (samples .entry))) (numberAt largest (now (line .entry)) at) ⌝ }
+    ensures { λ r. ⌜ r ≡ composedBy (before line) (inputsOf (shape .width) (shape .height) (shape .channels) (before dst) (pos 1) (before table) (before args) (before samples)) (numberAt largest (before line) at) ⌝ }
 {
     let length = number(line, at);
     if length.value > OUT as u64 {
@@ -177,7 +178,7 @@ fn composed_in(
     samples: &[u32],
     out: &mut [u32],
 ) -> usize
-    ensures { λ r. ⌜ r ≡ composedAt (now (line .entry)) at (composeOf (inputsOf (shape .width) (shape .height) (shape .channels) (now (dst .entry)) (pos 1) (now (table .entry)) (now (args .entry)) (now (samples .entry))) (now (out .entry))) ⌝ }
+    ensures { λ r. ⌜ r ≡ composedAt (before line) at (composeOf (inputsOf (shape .width) (shape .height) (shape .channels) (before dst) (pos 1) (before table) (before args) (before samples)) (before out)) ⌝ }
 {
     let answer = tray::tray_compose(
         shape.width,

@@ -1,6 +1,7 @@
 // The lines of jobs: calls one after the other on the same work buffers and mark.
 ghost use mathlib.Core.Path.{_≡_};
 ghost use lib.ListN.{getD};
+ghost use Rattle.lent.specs.Lent.{before, after};
 ghost use Rattle.vector_rooms.specs.Rooms.{worked, composing};
 ghost use Rattle.layers.specs.Inputs.{inputsOf};
 ghost use Rattle.job.specs.Memory.{memOf};
@@ -44,7 +45,7 @@ pub fn job(
     mark: &mut Mark,
     counts: &mut Counts,
 ) -> usize
-    ensures { λ r. ⌜ jobbed (now (dst .exit)) (now (table .exit)) (now (args .exit)) (now (samples .exit)) (worked r (now (work0 .exit)) (now (work1 .exit)) (now (mark .exit)) (now (counts .exit))) ≡ jobAt (now (line .entry)) (composing 0 (now (dst .entry)) (now (table .entry)) (now (args .entry)) (now (samples .entry)) (now (counts .entry))) (memOf (now (work0 .entry)) (now (work1 .entry)) (now (mark .entry))) ⌝ }
+    ensures { λ r. ⌜ jobbed (after dst) (after table) (after args) (after samples) (worked r (after work0) (after work1) (after mark) (after counts)) ≡ jobAt (before line) (composing 0 (before dst) (before table) (before args) (before samples) (before counts)) (memOf (before work0) (before work1) (before mark)) ⌝ }
 {
     let shape = shape_of(line);
     let after_dst = words(line, shape.next, dst, &mut counts[AT_DST]);
@@ -85,7 +86,7 @@ fn played(
     mark: &mut Mark,
     counts: &mut Counts,
 ) -> usize
-    ensures { λ r. ⌜ worked r (now (work0 .exit)) (now (work1 .exit)) (now (mark .exit)) (now (counts .exit)) ≡ playedAt (now (line .entry)) (inputsOf (shape .width) (shape .height) (shape .channels) (now (dst .entry)) layers (now (table .entry)) (now (args .entry)) (now (samples .entry))) (worked at (now (work0 .entry)) (now (work1 .entry)) (now (mark .entry)) (now (counts .entry))) ⌝ }
+    ensures { λ r. ⌜ worked r (after work0) (after work1) (after mark) (after counts) ≡ playedAt (before line) (inputsOf (shape .width) (shape .height) (shape .channels) (before dst) layers (before table) (before args) (before samples)) (worked at (before work0) (before work1) (before mark) (before counts)) ⌝ }
 {
     let after_memory = memory(line, at, work0, work1, mark, counts);
     let mut allowances = [0u64; 16];
@@ -138,7 +139,7 @@ fn called(
     mark: &mut [u64],
     counts: &Counts,
 ) -> usize
-    ensures { λ r. ⌜ played r (now (work0 .exit)) (now (work1 .exit)) (now (mark .exit)) ≡ calledAt (now (line .entry)) (inputsOf (shape .width) (shape .height) (shape .channels) (now (dst .entry)) layers (now (table .entry)) (now (args .entry)) (now (samples .entry))) (now (allowances .entry)) (now (counts .entry)) (played at (now (work0 .entry)) (now (work1 .entry)) (now (mark .entry))) ⌝ }
+    ensures { λ r. ⌜ played r (after work0) (after work1) (after mark) ≡ calledAt (before line) (inputsOf (shape .width) (shape .height) (shape .channels) (before dst) layers (before table) (before args) (before samples)) (before allowances) (before counts) (played at (before work0) (before work1) (before mark)) ⌝ }
 {
     let n0 = counts[AT_WORK0];
     let n1 = counts[AT_WORK1];
@@ -182,7 +183,7 @@ fn calls_on(
     work1: &mut [u32],
     mark: &mut [u64],
 ) -> usize
-    ensures { λ r. ⌜ played r (now (work0 .exit)) (now (work1 .exit)) (now (mark .exit)) ≡ callsAt (now (line .entry)) (inputsOf (shape .width) (shape .height) (shape .channels) (now (dst .entry)) layers (now (table .entry)) (now (args .entry)) (now (samples .entry))) (now (allowances .entry)) (played from (now (work0 .entry)) (now (work1 .entry)) (now (mark .entry))) ⌝ }
+    ensures { λ r. ⌜ played r (after work0) (after work1) (after mark) ≡ callsAt (before line) (inputsOf (shape .width) (shape .height) (shape .channels) (before dst) layers (before table) (before args) (before samples)) (before allowances) (played from (before work0) (before work1) (before mark)) ⌝ }
 {
     let mut at = from;
     let mut i = 0;
@@ -222,7 +223,7 @@ fn call(
     work1: &mut [u32],
     mark: &mut [u64],
 ) -> usize
-    ensures { λ r. ⌜ played r (now (work0 .exit)) (now (work1 .exit)) (now (mark .exit)) ≡ callAt (now (line .entry)) (inputsOf (shape .width) (shape .height) (shape .channels) (now (dst .entry)) layers (now (table .entry)) (now (args .entry)) (now (samples .entry))) allowance (played at (now (work0 .entry)) (now (work1 .entry)) (now (mark .entry))) ⌝ }
+    ensures { λ r. ⌜ played r (after work0) (after work1) (after mark) ≡ callAt (before line) (inputsOf (shape .width) (shape .height) (shape .channels) (before dst) layers (before table) (before args) (before samples)) allowance (played at (before work0) (before work1) (before mark)) ⌝ }
 {
     let mut layer: u64 = 0;
     let mut stores: u64 = 0;
@@ -251,7 +252,7 @@ fn call(
 
 // The mark as a line shows it: the first number of its list, 0 where there is none.
 fn position(mark: &[u64]) -> u64
-    ensures { λ r. ⌜ r ≡ getD (now (mark .entry)) 0 0 ⌝ }
+    ensures { λ r. ⌜ r ≡ getD (before mark) 0 0 ⌝ }
 {
     if 0 < mark.len() {
         return mark[0];

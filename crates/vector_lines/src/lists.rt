@@ -1,6 +1,7 @@
 // Lists: a count, then as many numbers, or `=` for the list as it is. A list is kept in an array that has room for the longest one, with its count beside it.
 ghost use mathlib.Core.Path.{_≡_};
 ghost use lib.ListN.{take};
+ghost use Rattle.lent.specs.Lent.{before, after};
 ghost use Rattle.vector_lines.specs.Numbers.{largest};
 ghost use Rattle.vector_lines.specs.Lists.{listed, numbersAt, integersAt, same, ifSame};
 use crate::NOWHERE;
@@ -11,7 +12,7 @@ use crate::numbers::signed;
 
 // Reads a list of 32-bit words.
 pub fn words(line: &[u8], at: usize, list: &mut [u32], count: &mut usize) -> usize
-    ensures { λ r. ⌜ listed (now (list .exit)) (now (count .exit)) r ≡ numbersAt 4294967295 (now (line .entry)) at (now (list .entry)) (now (count .entry)) ⌝ }
+    ensures { λ r. ⌜ listed (after list) (after count) r ≡ numbersAt 4294967295 (before line) at (before list) (before count) ⌝ }
 {
     let head = head_of(line, at, list.len(), count);
     let mut next = head.next;
@@ -27,7 +28,7 @@ pub fn words(line: &[u8], at: usize, list: &mut [u32], count: &mut usize) -> usi
 
 // Reads a list of bytes.
 pub fn bytes(line: &[u8], at: usize, list: &mut [u8], count: &mut usize) -> usize
-    ensures { λ r. ⌜ listed (now (list .exit)) (now (count .exit)) r ≡ numbersAt 255 (now (line .entry)) at (now (list .entry)) (now (count .entry)) ⌝ }
+    ensures { λ r. ⌜ listed (after list) (after count) r ≡ numbersAt 255 (before line) at (before list) (before count) ⌝ }
 {
     let head = head_of(line, at, list.len(), count);
     let mut next = head.next;
@@ -43,7 +44,7 @@ pub fn bytes(line: &[u8], at: usize, list: &mut [u8], count: &mut usize) -> usiz
 
 // Reads a list of 64-bit numbers.
 pub fn longs(line: &[u8], at: usize, list: &mut [u64], count: &mut usize) -> usize
-    ensures { λ r. ⌜ listed (now (list .exit)) (now (count .exit)) r ≡ numbersAt largest (now (line .entry)) at (now (list .entry)) (now (count .entry)) ⌝ }
+    ensures { λ r. ⌜ listed (after list) (after count) r ≡ numbersAt largest (before line) at (before list) (before count) ⌝ }
 {
     let head = head_of(line, at, list.len(), count);
     let mut next = head.next;
@@ -59,7 +60,7 @@ pub fn longs(line: &[u8], at: usize, list: &mut [u64], count: &mut usize) -> usi
 
 // Reads a list of signed numbers.
 pub fn integers(line: &[u8], at: usize, list: &mut [i64], count: &mut usize) -> usize
-    ensures { λ r. ⌜ listed (now (list .exit)) (now (count .exit)) r ≡ integersAt (now (line .entry)) at (now (list .entry)) (now (count .entry)) ⌝ }
+    ensures { λ r. ⌜ listed (after list) (after count) r ≡ integersAt (before line) at (before list) (before count) ⌝ }
 {
     let head = head_of(line, at, list.len(), count);
     let mut next = head.next;
@@ -76,7 +77,7 @@ pub fn integers(line: &[u8], at: usize, list: &mut [i64], count: &mut usize) -> 
 
 // The first `count` words of a list; all of them where it has fewer.
 pub fn first_words(list: &[u32], count: usize) -> &[u32]
-    ensures { λ r. ⌜ now r ≡ take count (now (list .entry)) ⌝ }
+    ensures { λ r. ⌜ now r ≡ take count (before list) ⌝ }
 {
     if count < list.len() {
         return &list[0..count];
@@ -85,7 +86,7 @@ pub fn first_words(list: &[u32], count: usize) -> &[u32]
 }
 
 pub fn first_bytes(list: &[u8], count: usize) -> &[u8]
-    ensures { λ r. ⌜ now r ≡ take count (now (list .entry)) ⌝ }
+    ensures { λ r. ⌜ now r ≡ take count (before list) ⌝ }
 {
     if count < list.len() {
         return &list[0..count];
@@ -94,7 +95,7 @@ pub fn first_bytes(list: &[u8], count: usize) -> &[u8]
 }
 
 pub fn first_integers(list: &[i64], count: usize) -> &[i64]
-    ensures { λ r. ⌜ now r ≡ take count (now (list .entry)) ⌝ }
+    ensures { λ r. ⌜ now r ≡ take count (before list) ⌝ }
 {
     if count < list.len() {
         return &list[0..count];
@@ -103,7 +104,7 @@ pub fn first_integers(list: &[i64], count: usize) -> &[i64]
 }
 
 pub fn first_longs(list: &[u64], count: usize) -> &[u64]
-    ensures { λ r. ⌜ now r ≡ take count (now (list .entry)) ⌝ }
+    ensures { λ r. ⌜ now r ≡ take count (before list) ⌝ }
 {
     if count < list.len() {
         return &list[0..count];
@@ -112,7 +113,7 @@ pub fn first_longs(list: &[u64], count: usize) -> &[u64]
 }
 
 pub fn same_words(a: &[u32], b: &[u32]) -> bool
-    ensures { λ r. ⌜ r ≡ same (now (a .entry)) (now (b .entry)) ⌝ }
+    ensures { λ r. ⌜ r ≡ same (before a) (before b) ⌝ }
 {
     if a.len() != b.len() {
         return false;

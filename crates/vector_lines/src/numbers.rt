@@ -1,6 +1,7 @@
 // Tokens and numbers. A token stands after one space; a number is one to sixteen small hexadecimal digits without leading zeros.
 ghost use mathlib.Core.Path.{_≡_};
 ghost use Prim.Native.Nat.{_≤_};
+ghost use Rattle.lent.specs.Lent.{before, after};
 ghost use Rattle.vector_lines.specs.Numbers.{largest, mostSigned, byteOf, afterOf, tokenAt, digitOf, none, upTo, goneOn, digitsAt, numberAt, expectedAt, integerOf, complementOf, signedAt, headAt, countAt};
 use crate::NOWHERE;
 
@@ -23,7 +24,7 @@ pub struct Head {
 
 // The byte at a place; 0 past the line's end.
 fn byte(line: &[u8], at: usize) -> u8
-    ensures { λ r. ⌜ r ≡ byteOf (now (line .entry)) at ⌝ }
+    ensures { λ r. ⌜ r ≡ byteOf (before line) at ⌝ }
 {
     if at < line.len() { line[at] } else { 0 }
 }
@@ -36,7 +37,7 @@ fn after(at: usize) -> usize
 
 // Where the token after a space starts.
 fn token(line: &[u8], at: usize) -> usize
-    ensures { λ r. ⌜ r ≡ tokenAt (now (line .entry)) at ⌝ }
+    ensures { λ r. ⌜ r ≡ tokenAt (before line) at ⌝ }
 {
     if byte(line, at) == b' ' {
         after(at)
@@ -65,7 +66,7 @@ fn digit(b: u8) -> u64
 }
 
 fn digit_at(line: &[u8], at: usize) -> u64
-    ensures { λ r. ⌜ r ≡ digitOf (byteOf (now (line .entry)) at) ⌝ }
+    ensures { λ r. ⌜ r ≡ digitOf (byteOf (before line) at) ⌝ }
 {
     digit(byte(line, at))
 }
@@ -81,7 +82,7 @@ fn nothing() -> Unsigned
 
 // The number whose digits go on at `start` after those that spell `first`; NOWHERE where it has more than 64 bits.
 fn more_digits(line: &[u8], start: usize, first: u64) -> Unsigned
-    ensures { λ r. ⌜ r ≡ goneOn (now (line .entry)) start first ⌝ }
+    ensures { λ r. ⌜ r ≡ goneOn (before line) start first ⌝ }
 {
     let mut value = first;
     let mut at = start;
@@ -99,7 +100,7 @@ fn more_digits(line: &[u8], start: usize, first: u64) -> Unsigned
 
 // The number whose digits start at `start`; NOWHERE where there is no digit, or a zero before others, or more than 64 bits.
 fn digits(line: &[u8], start: usize) -> Unsigned
-    ensures { λ r. ⌜ r ≡ digitsAt (now (line .entry)) start ⌝ }
+    ensures { λ r. ⌜ r ≡ digitsAt (before line) start ⌝ }
 {
     let first = digit_at(line, start);
     if first > 15 {
@@ -127,21 +128,21 @@ fn limited(n: Unsigned, most: u64) -> Unsigned
 
 // The number after a space.
 pub fn number_up_to(line: &[u8], at: usize, most: u64) -> Unsigned
-    ensures { λ r. ⌜ r ≡ numberAt most (now (line .entry)) at ⌝ }
+    ensures { λ r. ⌜ r ≡ numberAt most (before line) at ⌝ }
     ensures { λ r. ⌜ r .value ≤ most ⌝ }
 {
     limited(digits(line, token(line, at)), most)
 }
 
 pub fn number(line: &[u8], at: usize) -> Unsigned
-    ensures { λ r. ⌜ r ≡ numberAt largest (now (line .entry)) at ⌝ }
+    ensures { λ r. ⌜ r ≡ numberAt largest (before line) at ⌝ }
 {
     number_up_to(line, at, u64::MAX)
 }
 
 // The place after a number that must be `value`.
 pub fn expect(line: &[u8], at: usize, value: u64) -> usize
-    ensures { λ r. ⌜ r ≡ expectedAt (now (line .entry)) at value ⌝ }
+    ensures { λ r. ⌜ r ≡ expectedAt (before line) at value ⌝ }
 {
     let n = number(line, at);
     if n.value == value { n.next } else { NOWHERE }
@@ -151,7 +152,7 @@ const MOST_SIGNED: u64 = 0x7fff_ffff_ffff_ffff;
 
 // A number that may be below zero: then its complement stands after `~`.
 pub fn signed(line: &[u8], at: usize) -> Integer
-    ensures { λ r. ⌜ r ≡ signedAt (now (line .entry)) at ⌝ }
+    ensures { λ r. ⌜ r ≡ signedAt (before line) at ⌝ }
 {
     let start = token(line, at);
     if byte(line, start) == b'~' {
@@ -182,9 +183,9 @@ fn complement(n: Unsigned) -> Integer
 
 // What stands in the place of a list that has room for `room` numbers: `=`, or its count, which is written to `count`.
 pub fn head_of(line: &[u8], at: usize, room: usize, count: &mut usize) -> Head
-    ensures { λ r. ⌜ r ≡ headAt room (now (line .entry)) at ⌝ }
+    ensures { λ r. ⌜ r ≡ headAt room (before line) at ⌝ }
     ensures { λ r. ⌜ r .count ≤ room ⌝ }
-    ensures { λ _. ⌜ now (count .exit) ≡ countAt room (now (line .entry)) at (now (count .entry)) ⌝ }
+    ensures { λ _. ⌜ after count ≡ countAt room (before line) at (before count) ⌝ }
 {
     let start = token(line, at);
     if byte(line, start) == b'=' {

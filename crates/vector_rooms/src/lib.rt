@@ -1,6 +1,7 @@
 // The lists that lines share: an array for each, with room for the longest, and the counts of those that `=` may stand for. How a line's lists are read
 // over what they were, and whether a job's memory is left as a line says.
 ghost use mathlib.Core.Path.{_≡_};
+ghost use Rattle.lent.specs.Lent.{before, after};
 ghost use Rattle.vector_lines.specs.Lists.{same, ifSame};
 ghost use Rattle.vector_rooms.specs.Rooms.{shapeAt, layered, layersAt, worked, memoryAt, leftAt, asBefore};
 use vector_lines::if_same;
@@ -51,7 +52,7 @@ pub struct Shape {
 }
 
 pub fn shape_of(line: &[u8]) -> Shape
-    ensures { λ r. ⌜ r ≡ shapeAt (now (line .entry)) ⌝ }
+    ensures { λ r. ⌜ r ≡ shapeAt (before line) ⌝ }
 {
     let width = signed(line, 1);
     let height = signed(line, width.next);
@@ -76,7 +77,7 @@ pub fn layers(
     samples: &mut Samples,
     counts: &mut Counts,
 ) -> usize
-    ensures { λ r. ⌜ layered r (now (table .exit)) (now (args .exit)) (now (samples .exit)) (now (counts .exit)) ≡ layersAt (now (line .entry)) (layered at (now (table .entry)) (now (args .entry)) (now (samples .entry)) (now (counts .entry))) ⌝ }
+    ensures { λ r. ⌜ layered r (after table) (after args) (after samples) (after counts) ≡ layersAt (before line) (layered at (before table) (before args) (before samples) (before counts)) ⌝ }
 {
     let after_table = integers(line, at, table, &mut counts[AT_TABLE]);
     let after_args = words(line, after_table, args, &mut counts[AT_ARGS]);
@@ -92,7 +93,7 @@ pub fn memory(
     mark: &mut Mark,
     counts: &mut Counts,
 ) -> usize
-    ensures { λ r. ⌜ worked r (now (work0 .exit)) (now (work1 .exit)) (now (mark .exit)) (now (counts .exit)) ≡ memoryAt (now (line .entry)) (worked at (now (work0 .entry)) (now (work1 .entry)) (now (mark .entry)) (now (counts .entry))) ⌝ }
+    ensures { λ r. ⌜ worked r (after work0) (after work1) (after mark) (after counts) ≡ memoryAt (before line) (worked at (before work0) (before work1) (before mark) (before counts)) ⌝ }
 {
     let after_work0 = words(line, at, work0, &mut counts[AT_WORK0]);
     let after_work1 = words(line, after_work0, work1, &mut counts[AT_WORK1]);
@@ -100,7 +101,7 @@ pub fn memory(
 }
 
 fn same_longs(a: &[u64], b: &[u64]) -> bool
-    ensures { λ r. ⌜ r ≡ same (now (a .entry)) (now (b .entry)) ⌝ }
+    ensures { λ r. ⌜ r ≡ same (before a) (before b) ⌝ }
 {
     if a.len() != b.len() {
         return false;
@@ -127,7 +128,7 @@ pub fn left(
     mark: &mut Mark,
     counts: &mut Counts,
 ) -> usize
-    ensures { λ r. ⌜ worked r (now (work0 .exit)) (now (work1 .exit)) (now (mark .exit)) (now (counts .exit)) ≡ leftAt (now (line .entry)) (worked at (now (due0 .entry)) (now (due1 .entry)) (now («due_mark» .entry)) (now (counts .entry))) (now (work0 .entry)) (now (work1 .entry)) (now (mark .entry)) ⌝ }
+    ensures { λ r. ⌜ worked r (after work0) (after work1) (after mark) (after counts) ≡ leftAt (before line) (worked at (before due0) (before due1) (now («due_mark» .entry)) (before counts)) (before work0) (before work1) (before mark) ⌝ }
 {
     let n0 = counts[AT_WORK0];
     let n1 = counts[AT_WORK1];

@@ -1,5 +1,6 @@
 // The lines of a text, one after the other: each is asked of the library, and the place is kept where its answer ends.
 ghost use mathlib.Core.Path.{_≡_};
+ghost use Rattle.lent.specs.Lent.{before, after};
 ghost use Rattle.verdicts.specs.Lines.{linesOf, counted, linesCounted};
 ghost use Rattle.vectors.specs.Replay.{kept, nothingKept, answer, replayedAt, placesFrom};
 use vector_cases::composition;
@@ -33,7 +34,7 @@ fn replayed(
     mark: &mut Mark,
     counts: &mut Counts,
 ) -> usize
-    ensures { λ r. ⌜ answer r (kept (now (dst .exit)) (now (table .exit)) (now (args .exit)) (now (samples .exit)) (now (input .exit)) (now (work0 .exit)) (now (work1 .exit)) (now (mark .exit)) (now (counts .exit))) ≡ replayedAt (now (line .entry)) (kept (now (dst .entry)) (now (table .entry)) (now (args .entry)) (now (samples .entry)) (now (input .entry)) (now (work0 .entry)) (now (work1 .entry)) (now (mark .entry)) (now (counts .entry))) ⌝ }
+    ensures { λ r. ⌜ answer r (kept (after dst) (after table) (after args) (after samples) (after input) (after work0) (after work1) (after mark) (after counts)) ≡ replayedAt (before line) (kept (before dst) (before table) (before args) (before samples) (before input) (before work0) (before work1) (before mark) (before counts)) ⌝ }
 {
     match first(line) {
         b'F' => name(line),
@@ -47,7 +48,7 @@ fn replayed(
 
 // Replays every line and keeps where its answer ends.
 fn replay(text: &[u8], places: &mut [usize])
-    ensures { λ _. ⌜ now (places .exit) ≡ placesFrom 0 (linesOf (now (text .entry))) nothingKept (now (places .entry)) ⌝ }
+    ensures { λ _. ⌜ after places ≡ placesFrom 0 (linesOf (before text)) nothingKept (before places) ⌝ }
 {
     let mut dst: Picture = [0; 256];
     let mut table: Table = [0; 320];
@@ -89,7 +90,7 @@ pub fn judge(
     right: &mut [u64],
     wrong: &mut [u64],
 ) -> u64
-    ensures { λ r. ⌜ counted (now (right .exit)) (now (wrong .exit)) r ≡ linesCounted (now (kinds .entry)) (placesFrom 0 (linesOf (now (text .entry))) nothingKept (now (places .entry))) 0 (linesOf (now (text .entry))) (counted (now (right .entry)) (now (wrong .entry)) 0) ⌝ }
+    ensures { λ r. ⌜ counted (after right) (after wrong) r ≡ linesCounted (before kinds) (placesFrom 0 (linesOf (before text)) nothingKept (before places)) 0 (linesOf (before text)) (counted (before right) (before wrong) 0) ⌝ }
 {
     replay(text, places);
     count_lines(text, places, kinds, right, wrong)

@@ -4,14 +4,15 @@ ghost use mathlib.Core.Bool.{not, _&&_};
 ghost use mathlib.Core.Path.{_≡_};
 ghost use Prim.Native.Nat.{_+_, _≤_, _<_};
 ghost use lib.ListN.{length, getD, set, drop};
+ghost use Rattle.lent.specs.Lent.{before, after};
 ghost use Rattle.verdicts.specs.Lines.{widthOf, linesOf, firstOf, asks, askedOf, spoiled, kindOf, rightAt, counted, firstWrong, withLine, lineCounted, linesCounted};
 use crate::counting::tally;
 
 // Where the line that starts at `from` ends.
 pub fn line_end(text: &[u8], from: usize) -> usize
     requires { ⌜ from ≤ length (now text) ⌝ }
-    ensures { λ r. ⌜ r ≡ from + widthOf (drop from (now (text .entry))) ⌝ }
-    ensures { λ r. ⌜ (from ≤ r) × (r ≤ length (now (text .entry))) ⌝ }
+    ensures { λ r. ⌜ r ≡ from + widthOf (drop from (before text)) ⌝ }
+    ensures { λ r. ⌜ (from ≤ r) × (r ≤ length (before text)) ⌝ }
 {
     let mut at = from;
     while at < text.len() {
@@ -25,7 +26,7 @@ pub fn line_end(text: &[u8], from: usize) -> usize
 
 // The first byte of a line; 0 where it is empty.
 pub fn first(line: &[u8]) -> u8
-    ensures { λ r. ⌜ r ≡ firstOf (now (line .entry)) ⌝ }
+    ensures { λ r. ⌜ r ≡ firstOf (before line) ⌝ }
 {
     if 0 < line.len() {
         return line[0];
@@ -35,7 +36,7 @@ pub fn first(line: &[u8]) -> u8
 
 // Whether a line asks something.
 fn is_asked(line: &[u8]) -> bool
-    ensures { λ r. ⌜ r ≡ asks (now (line .entry)) ⌝ }
+    ensures { λ r. ⌜ r ≡ asks (before line) ⌝ }
 {
     if line.len() == 0 {
         return false;
@@ -45,7 +46,7 @@ fn is_asked(line: &[u8]) -> bool
 
 // What a line asks.
 pub fn asked(line: &[u8]) -> &[u8]
-    ensures { λ r. ⌜ now r ≡ askedOf (now (line .entry)) ⌝ }
+    ensures { λ r. ⌜ now r ≡ askedOf (before line) ⌝ }
 {
     let one: usize = 1;
     if first(line) == b'!' {
@@ -58,8 +59,8 @@ pub fn asked(line: &[u8]) -> &[u8]
 
 // The kind of a line that starts with `first`: where it stands among the kinds' letters.
 fn kind_of(kinds: &[u8], first: u8) -> usize
-    ensures { λ r. ⌜ r ≡ kindOf (now (kinds .entry)) first ⌝ }
-    ensures { λ r. ⌜ r ≤ length (now (kinds .entry)) ⌝ }
+    ensures { λ r. ⌜ r ≡ kindOf (before kinds) first ⌝ }
+    ensures { λ r. ⌜ r ≤ length (before kinds) ⌝ }
 {
     let mut i = 0;
     while i < kinds.len() {
@@ -73,7 +74,7 @@ fn kind_of(kinds: &[u8], first: u8) -> usize
 
 // Whether a line is answered right whose answer ends at a place.
 fn is_right(line: &[u8], place: usize) -> bool
-    ensures { λ r. ⌜ r ≡ rightAt (now (line .entry)) place ⌝ }
+    ensures { λ r. ⌜ r ≡ rightAt (before line) place ⌝ }
 {
     let end = asked(line).len();
     if first(line) == b'!' {
@@ -96,7 +97,7 @@ fn earlier(first: u64, number: u64, is_wrong: bool) -> u64
 
 // Whether a line is counted as right, and whether as wrong: one that asks nothing is neither.
 fn counts_right(line: &[u8], place: usize) -> bool
-    ensures { λ r. ⌜ r ≡ asks (now (line .entry)) && rightAt (now (line .entry)) place ⌝ }
+    ensures { λ r. ⌜ r ≡ asks (before line) && rightAt (before line) place ⌝ }
 {
     if is_asked(line) {
         return is_right(line, place);
@@ -105,7 +106,7 @@ fn counts_right(line: &[u8], place: usize) -> bool
 }
 
 fn counts_wrong(line: &[u8], place: usize) -> bool
-    ensures { λ r. ⌜ r ≡ asks (now (line .entry)) && not (rightAt (now (line .entry)) place) ⌝ }
+    ensures { λ r. ⌜ r ≡ asks (before line) && not (rightAt (before line) place) ⌝ }
 {
     if is_asked(line) {
         return !is_right(line, place);
@@ -123,7 +124,7 @@ fn count_line(
     right: &mut [u64],
     wrong: &mut [u64],
 ) -> u64
-    ensures { λ r. ⌜ counted (now (right .exit)) (now (wrong .exit)) r ≡ lineCounted (now (kinds .entry)) number (now (line .entry)) place (counted (now (right .entry)) (now (wrong .entry)) «first_wrong») ⌝ }
+    ensures { λ r. ⌜ counted (after right) (after wrong) r ≡ lineCounted (before kinds) number (before line) place (counted (before right) (before wrong) «first_wrong») ⌝ }
 {
     let kind = kind_of(kinds, first(line));
     let is_wrong = counts_wrong(line, place);
@@ -134,7 +135,7 @@ fn count_line(
 
 // Keeps where the i-th line's answer ends, if there is room for it.
 pub fn put_place(places: &mut [usize], i: usize, place: usize)
-    ensures { λ _. ⌜ now (places .exit) ≡ set (now (places .entry)) i place ⌝ }
+    ensures { λ _. ⌜ after places ≡ set (before places) i place ⌝ }
 {
     if i < places.len() {
         places[i] = place;
@@ -143,7 +144,7 @@ pub fn put_place(places: &mut [usize], i: usize, place: usize)
 
 // Where the i-th line's answer ends; 0 where no place is given.
 fn place_of(places: &[usize], i: usize) -> usize
-    ensures { λ r. ⌜ r ≡ getD (now (places .entry)) i 0 ⌝ }
+    ensures { λ r. ⌜ r ≡ getD (before places) i 0 ⌝ }
 {
     if i < places.len() {
         return places[i];
@@ -159,7 +160,7 @@ pub fn count_lines(
     right: &mut [u64],
     wrong: &mut [u64],
 ) -> u64
-    ensures { λ r. ⌜ counted (now (right .exit)) (now (wrong .exit)) r ≡ linesCounted (now (kinds .entry)) (now (places .entry)) 0 (linesOf (now (text .entry))) (counted (now (right .entry)) (now (wrong .entry)) 0) ⌝ }
+    ensures { λ r. ⌜ counted (after right) (after wrong) r ≡ linesCounted (before kinds) (before places) 0 (linesOf (before text)) (counted (before right) (before wrong) 0) ⌝ }
 {
     let mut first_wrong: u64 = 0;
     let mut i: usize = 0;

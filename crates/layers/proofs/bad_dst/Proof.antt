@@ -1,7 +1,7 @@
 -- `layers::bad_dst` meets its contract. Assumes nothing.
 use mathlib.Core.Path.{_≡_, refl, sym, _∙_}
 use mir.Facts.{toZ-ofZ}
-use Rattle.layers.specs.Cells.{badShape, areaOf}
+use Rattle.layers.specs.Cells.{badShape, sampleCount}
 use Rattle.layers.specs.Inputs.{badDst}
 use Rattle.layers.proofs.Ranges.{shape-as, area-at}
 use borrow.Author.Needs.{needs}
@@ -11,7 +11,7 @@ use Rattle.layers.proofs.bad_dst.Tie as tie
 shape : (c : tie.After-bad-shape) → c .bad-shape .result ≡ badShape (c .before .args .width) (c .before .args .height) (c .before .args .channels)
 shape c = shape-as (c .bad-shape .ensures) (toZ-ofZ (c .before .fits .width)) (toZ-ofZ (c .before .fits .height)) (toZ-ofZ (c .before .fits .channels))
 
-area : (c : tie.After-area) → c .area .result ≡ areaOf (c .before .before .before .args .width) (c .before .before .before .args .height) (c .before .before .before .args .channels)
+area : (c : tie.After-area) → c .area .result ≡ sampleCount (c .before .before .before .args .width) (c .before .before .before .args .height) (c .before .before .before .args .channels)
 area c =
     let s = c .before .before .before in
     area-at (c .area .ensures) (toZ-ofZ (s .fits .width)) (toZ-ofZ (s .fits .height)) (toZ-ofZ (s .fits .channels))

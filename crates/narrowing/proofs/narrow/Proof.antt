@@ -24,7 +24,7 @@ abbrev μ-loop : tie.MeasureT-loop
 returns : tie.Need-returns Inv-loop μ-loop
 returns c =
     let s = c .before .before .before .before in
-    answer-refused _ _ (s .args .input .now) _ (c .before .accepted .ensures) _ (toZ-ofZ (s .fits .wanted)) (c .if1 .taken)
+    answer-refused _ _ (s .args .input .now) _ (c .before .accepted-channels .ensures) _ (toZ-ofZ (s .fits .wanted)) (c .if1 .taken)
 
 loop-again : tie.Need-loop-again Inv-loop μ-loop
 loop-again c = one-more step (c .before .before .loop .inv) (c .before .loop-test .taken) (c .narrowed-at .ensures)
@@ -42,7 +42,7 @@ narrow-spec =
     μ-loop
     (λ c κs. search needs)
     returns
-    (λ c. none-written _ _ _ _ (c .before .accepted .ensures) step (c .if1 .left))
+    (λ c. none-written _ _ _ _ (c .before .accepted-channels .ensures) step (c .if1 .left))
     (λ c κs. word-there step (c .before .loop .inv) (c .loop-test .taken))
     (λ c. search needs)
     (λ c. search needs)

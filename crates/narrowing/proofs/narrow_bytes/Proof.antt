@@ -25,7 +25,7 @@ abbrev μ-loop : tie.MeasureT-loop
 returns : tie.Need-returns Inv-loop μ-loop
 returns c =
     let s = c .before .before .before .before in
-    answer-refused _ _ (s .args .input .now) _ (c .before .accepted .ensures) _ (toZ-ofZ (s .fits .wanted)) (c .if1 .taken)
+    answer-refused _ _ (s .args .input .now) _ (c .before .accepted-channels .ensures) _ (toZ-ofZ (s .fits .wanted)) (c .if1 .taken)
 
 loop-again : tie.Need-loop-again Inv-loop μ-loop
 loop-again c =
@@ -45,7 +45,7 @@ narrow-bytes-spec =
     μ-loop
     (λ c κs. search needs)
     returns
-    (λ c. none-written _ _ _ _ (c .before .accepted .ensures) step (c .if1 .left))
+    (λ c. none-written _ _ _ _ (c .before .accepted-channels .ensures) step (c .if1 .left))
     (λ c κs. word-there step (c .before .loop .inv) (c .loop-test .taken))
     (λ c κs. search needs)
     (λ c κs. search needs)

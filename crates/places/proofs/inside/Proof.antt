@@ -3,8 +3,8 @@ use mathlib.Core.Path.{_≡_, sym, ap}
 use lib.IntN.{pos, natAbs}
 use mir.Facts.{toZ-ofZ}
 use Rattle.laws.proofs.Signed.{below-zero, from-zero, casts}
-use Rattle.places.specs.Spots.{insideOf}
-use Rattle.places.proofs.Spots.{at-inside, off-past}
+use Rattle.places.specs.Indices.{insideOf}
+use Rattle.places.proofs.Indices.{at-inside, off-past}
 use Rattle.places.proofs.inside.Statement.{statement}
 use Rattle.places.proofs.inside.Tie as tie
 

@@ -9,7 +9,7 @@ use mir.Syntax.{w64}
 use mir.Facts.{toZ-ofZ}
 use mir.Val.{toZ, ofZ}
 use Rattle.laws.proofs.Signed.{below-zero, from-zero, casts}
-use Rattle.places.specs.Spots.{remEuclid}
+use Rattle.places.specs.Indices.{remEuclid}
 use Rattle.places.proofs.Signed.{sfits, back, minus-one}
 use Rattle.places.proofs.rem_euclid.Statement.{statement}
 use Rattle.places.proofs.rem_euclid.Tie as tie

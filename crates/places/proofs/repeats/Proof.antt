@@ -2,7 +2,7 @@
 use native.Mathlib.Omega.{arith}
 use borrow.Author.Needs.{needs}
 use borrow.Author.Tests.{lt-ltb}
-use Rattle.places.proofs.Spots.{no-column}
+use Rattle.places.proofs.Indices.{no-column}
 use Rattle.places.proofs.repeats.Statement.{statement}
 use Rattle.places.proofs.repeats.Tie as tie
 

@@ -3,45 +3,45 @@ use mathlib.Core.Path.{_≡_}
 use native.Mathlib.Omega.{arith}
 use borrow.Author.Needs.{needs}
 use lib.IntN.{pos, _-ℤ_}
-use Rattle.places.specs.Spots.{spotOf, tiles, sourceIndex}
+use Rattle.places.specs.Indices.{axisIndex, tiles, sourceIndex}
 use Rattle.places.proofs.Signed.{back}
-use Rattle.places.proofs.Spots.{spot-as, spot-under}
+use Rattle.places.proofs.Indices.{axis-as, axis-under}
 use Rattle.places.proofs.source_index.Statement.{statement}
 use Rattle.places.proofs.source_index.Tie as tie
 use Rattle.places.proofs.source_index.Reads as reads
 use Rattle.places.proofs.source_index.Lts as lts
-use Rattle.places.proofs.index.Reads as index-reads
+use Rattle.places.proofs.pixel_index.Reads as pixel-index-reads
 use Rattle.places.proofs.repeats.Reads as repeats-reads
-use Rattle.places.proofs.spot_at.Reads as spot-at-reads
+use Rattle.places.proofs.axis_index.Reads as axis-index-reads
 
-abbrev start : tie.After-spot-at2 → tie.Start
+abbrev start : tie.After-axis-index2 → tie.Start
 start c = c .before .before .before .before .before
 
-column : (c : tie.After-spot-at2) → c .before .before .spot-at .result ≡ spotOf (tiles (start c .args .tile) (start c .args .sw) (start c .args .sh)) (start c .args .sw) (pos (start c .args .x) -ℤ start c .args .corner .x)
+column : (c : tie.After-axis-index2) → c .before .before .axis-index .result ≡ axisIndex (tiles (start c .args .tile) (start c .args .sw) (start c .args .sh)) (start c .args .sw) (pos (start c .args .x) -ℤ start c .args .corner .x)
 column c =
     let s = start c in
-    spot-as (s .args .sw) (s .args .x) (c .before .before .spot-at .ensures) (c .before .before .before .before .repeats .ensures)
+    axis-as (s .args .sw) (s .args .x) (c .before .before .axis-index .ensures) (c .before .before .before .before .repeats .ensures)
     (back {z = s .args .corner .x} (omega (arith, s .pre .corner-x)))
 
-row : (c : tie.After-spot-at2) → c .spot-at2 .result ≡ spotOf (tiles (start c .args .tile) (start c .args .sw) (start c .args .sh)) (start c .args .sh) (pos (start c .args .y) -ℤ start c .args .corner .y)
+row : (c : tie.After-axis-index2) → c .axis-index2 .result ≡ axisIndex (tiles (start c .args .tile) (start c .args .sw) (start c .args .sh)) (start c .args .sh) (pos (start c .args .y) -ℤ start c .args .corner .y)
 row c =
     let s = start c in
-    spot-as (s .args .sh) (s .args .y) (c .spot-at2 .ensures) (c .before .before .before .before .repeats .ensures)
+    axis-as (s .args .sh) (s .args .y) (c .axis-index2 .ensures) (c .before .before .before .before .repeats .ensures)
     (back {z = s .args .corner .y} (omega (arith, s .pre .corner-y)))
 
-index-requires : tie.Need-index-requires
-index-requires c κs =
+pixel-index-requires : tie.Need-pixel-index-requires
+pixel-index-requires c κs =
     let s = start c in (
       s .pre .width,
-      spot-under _ _ _ _ (column c) (s .pre .width),
-      spot-under _ _ _ _ (row c) (s .pre .height),
+      axis-under _ _ _ _ (column c) (s .pre .width),
+      axis-under _ _ _ _ (row c) (s .pre .height),
     )
 
 returns : tie.Need-returns
 unfolding sourceIndex
-returns c = rw (← column (c .before), ← row (c .before)) (c .index .ensures)
+returns c = rw (← column (c .before), ← row (c .before)) (c .pixel-index .ensures)
 
 pub source-index-spec : {M : Type 1} → statement M
 source-index-spec =
     tie.close
-    (tie.spec (λ c κs. search needs) (λ c κs. search needs) (λ c κs. search needs) index-requires returns)
+    (tie.spec (λ c κs. search needs) (λ c κs. search needs) (λ c κs. search needs) pixel-index-requires returns)

@@ -4,7 +4,7 @@ use mathlib.Core.Path.{_≡_, refl, sym, ap, _∙_}
 use mathlib.Core.Bool.{Bool, true, false, cond, _||_}
 use borrow.Author.Needs.{needs}
 use Rattle.laws.proofs.Variants.{no-arm}
-use Rattle.operators.specs.Operators.{same, isMap}
+use Rattle.operators.specs.Operators.{sameOp, isMap}
 use Rattle.operators.specs.declared.CompositeOp.{CompositeOp}
 use Rattle.operators.specs.declared.CompositeOp.the-variants as O
 use Rattle.operators.proofs.CompositeOp.{enum}
@@ -16,7 +16,7 @@ use Rattle.compose.proofs.arguments.params.Tie as tie
 
 -- the operators that have an arm of their own
 abbrev own : CompositeOp → Bool
-own o = same o O.Blend || same o O.Dissolve || same o O.ChangeMask || same o O.Threshold || same o O.Modulate || same o O.Mathematics
+own o = sameOp o O.Blend || sameOp o O.Dissolve || sameOp o O.ChangeMask || sameOp o O.Threshold || sameOp o O.Modulate || sameOp o O.Mathematics
 
 -- the last of the tests, if the ones before it fail
 past : {A : Type 0} (a b c d e f : Bool) (u v w x y z rest : A)
@@ -33,7 +33,7 @@ past false false false false false true u v w x y z rest h = cc
 module _ (o : CompositeOp) (args : Args) (h : false ≡ own o) where
   others : cond (isMap o) (mapParams args) unused ≡ paramsOf o args
   unfolding paramsOf
-  others = past (same o O.Blend) (same o O.Dissolve) (same o O.ChangeMask) (same o O.Threshold) (same o O.Modulate) (same o O.Mathematics) _ _ _ _ _ _ _ h
+  others = past (sameOp o O.Blend) (sameOp o O.Dissolve) (sameOp o O.ChangeMask) (sameOp o O.Threshold) (sameOp o O.Modulate) (sameOp o O.Mathematics) _ _ _ _ _ _ _ h
 
 -- .. where the code stands in it
 last : (c : tie.After-is-map)

@@ -1,4 +1,4 @@
--- `compose::cell::source_pixel` meets its contract: a spot below the source's pixels has its words in the samples. Assumes nothing.
+-- `compose::cell::source_pixel` meets its contract: an index below the source's pixels has its words in the samples. Assumes nothing.
 use borrow.Author.Needs.{needs}
 use Rattle.compose.specs.Compose.{sourcePixel}
 use Rattle.pictures.proofs.Inside.{words-inside}
@@ -9,11 +9,11 @@ rgba-at-requires : tie.Need-rgba-at-requires
 rgba-at-requires c κs =
     let s = c .before .before .before .before in
     let r = s .pre .0 in
-    (r .some, r .most, rw (r .whole) (words-inside _ _ _ (rw (c .before .spot .given .1) at (s .pre .1))))
+    (r .some, r .most, rw (r .whole) (words-inside _ _ _ (rw (c .before .index .given .1) at (s .pre .1))))
 
 returns : tie.Need-returns
 unfolding sourcePixel
-returns c = rw (c .before .before .before .spot .given .1, c .values .ensures, c .before .rgba-at .ensures)
+returns c = rw (c .before .before .before .index .given .1, c .values .ensures, c .before .rgba-at .ensures)
 
 returns-2 : tie.Need-returns-2
 unfolding sourcePixel

@@ -27,37 +27,37 @@ loop-holds : tie.Need-loop-holds Inv-loop μ-loop
 unfolding flat
 loop-holds c = (omega arith, refl, refl)
 
-sub-least : tie.Need-sub-least Inv-loop μ-loop
-sub-least c = omega arith
+sub-min : tie.Need-sub-min Inv-loop μ-loop
+sub-min c = omega arith
 
-least-requires : tie.Need-least-requires Inv-loop μ-loop
-least-requires c κs = tt
+min-requires : tie.Need-min-requires Inv-loop μ-loop
+min-requires c κs = tt
 
 chunk-requires : tie.Need-chunk-requires Inv-loop μ-loop
 chunk-requires c κs =
     let s = c .before .before .before .before .before .before .before in
     let l = c .before .before .before .loop in
-    let n : c .before .least .result ≤ 64 = omega (arith, c .before .least .ensures) in
-    let m : c .before .least .result ≤ s .args .total - l .j = omega (arith, c .before .least .ensures) in
+    let n : c .before .min .result ≤ 64 = omega (arith, c .before .min .ensures) in
+    let m : c .before .min .result ≤ s .args .total - l .j = omega (arith, c .before .min .ensures) in
     (s .pre .0, run-part _ _ _ _ _ _ (s .pre .1) (omega arith), n, simp (length-take, length-drop) (omega (arith, l .inv .2, s .pre .2)))
 
 add-j : tie.Need-add-j Inv-loop μ-loop
 add-j c =
     let k = c .before .before .before .before in
     let s = k .before .before .before .before .before .before in
-    record { fits = omega (arith, k .least .ensures, run-small _ _ _ _ _ (s .pre .1)) }
+    record { fits = omega (arith, k .min .ensures, run-small _ _ _ _ _ (s .pre .1)) }
 
 loop-less : tie.Need-loop-less Inv-loop μ-loop
-loop-less c = omega (arith, c .before .before .before .before .least .ensures)
+loop-less c = omega (arith, c .before .before .before .before .min .ensures)
 
 loop-again : tie.Need-loop-again Inv-loop μ-loop
 loop-again c =
     let k = c .before .before in
     let l = k .before .before .before .before in
     let s = l .before .before .before .before in
-    let m : k .before .before .least .result ≤ s .args .total - l .loop .j = omega (arith, k .before .before .least .ensures) in
-    let n = l .loop .j + k .before .before .least .result in
-    let e = chunk-more _ (l .loop .j) (k .before .before .least .result) (s .args .out .now) (l .loop .out) _ (l .loop .inv .1) (l .loop .inv .2) (omega (arith, s .pre .2)) (k .chunk .ensures) in
+    let m : k .before .before .min .result ≤ s .args .total - l .loop .j = omega (arith, k .before .before .min .ensures) in
+    let n = l .loop .j + k .before .before .min .result in
+    let e = chunk-more _ (l .loop .j) (k .before .before .min .result) (s .args .out .now) (l .loop .out) _ (l .loop .inv .1) (l .loop .inv .2) (omega (arith, s .pre .2)) (k .chunk .ensures) in
     (omega arith, e, ap length e ∙ length-filled _ n (s .args .out .now) (omega (arith, s .pre .2)))
 
 same-length : tie.Need-same-length Inv-loop μ-loop
@@ -76,8 +76,8 @@ chunks-spec =
     Inv-loop
     μ-loop
     loop-holds
-    sub-least
-    least-requires
+    sub-min
+    min-requires
     (λ c. search needs)
     (λ c. search needs)
     (λ c. search needs)

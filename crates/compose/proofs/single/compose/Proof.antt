@@ -10,8 +10,8 @@ use Rattle.places.specs.Bounds.{slack}
 use Rattle.layers.specs.Cells.{natOf}
 use Rattle.layers.specs.Inputs.{Inputs, inputsOf, jobFault}
 use Rattle.layers.proofs.Accepted.{Accepted, accepted, destination}
-use Rattle.compose.specs.Single.{pictureOf}
-use Rattle.compose.proofs.Outcomes.{refused, unfit, composed}
+use Rattle.compose.specs.Single.{outputOf}
+use Rattle.compose.proofs.Outcomes.{refused, unfit, laid-out}
 use Rattle.compose.proofs.Placed.{plane}
 use Rattle.compose.proofs.single.compose.Statement.{statement}
 use Rattle.compose.proofs.single.compose.Tie as tie
@@ -104,8 +104,8 @@ returns-3 c =
     let a = n .before .before .before in
     let e = sides n in
     let f : d .natural3 .result ≡ natOf (start a .args .channels) = rw (toZ-ofZ (start a .fits .channels)) at (d .natural3 .ensures) in
-    let picture : _ ≡ pictureOf (inputs (start a)) = k .whole .ensures ∙ rw (k .before .before .at .ensures, e .wide, e .high, f) in
-    composed (inputs (start a)) (start a .args .out .now) _ (told a) (n .before .before .if1 .left) _ (rw (e .wide, e .high) at (d .before .if2 .left)) picture
+    let picture : _ ≡ outputOf (inputs (start a)) = k .whole .ensures ∙ rw (k .before .before .at .ensures, e .wide, e .high, f) in
+    laid-out (inputs (start a)) (start a .args .out .now) _ (told a) (n .before .before .if1 .left) _ (rw (e .wide, e .high) at (d .before .if2 .left)) picture
 
 pub compose-spec : {M : Type 1} → statement M
 compose-spec =

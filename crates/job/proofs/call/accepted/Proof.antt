@@ -27,10 +27,10 @@ start c = c .before .before .before .before .before .before .before
 abbrev read : tie.After-slice-known4 → tie.After-natural3
 read c = c .before
 
-abbrev counted : tie.After-least → tie.After-natural3
+abbrev counted : tie.After-min → tie.After-natural3
 counted c = read (c .before .before)
 
-abbrev written : tie.After-writes → tie.After-least
+abbrev written : tie.After-writes → tie.After-min
 written c = c .before .before .before .before .before
 
 abbrev ended : tie.After-acceptance → tie.After-writes
@@ -72,20 +72,20 @@ deep c = rw (toZ-ofZ (start (c .before .before .before .before) .fits .channels)
 end : (c : tie.After-natural3) → (c .natural3 .result + 1) * (c .before .before .natural .result * c .before .natural2 .result) ≡ endOf (inputs (start (c .before .before)))
 end c = end-is (inputs (start (c .before .before))) (wide (c .before .before)) (high (c .before)) (many c)
 
-made : (c : tie.After-least) → let s = start (counted c .before .before) in c .least .result ≡ madeOf (inputs s) (s .args .allowance) (memory s)
-made c = rw (← end (counted c)) (c .least .ensures)
+made : (c : tie.After-min) → let s = start (counted c .before .before) in c .min .result ≡ madeOf (inputs s) (s .args .allowance) (memory s)
+made c = rw (← end (counted c)) (c .min .ensures)
 
-abbrev extent : tie.After-least → Extent
+abbrev extent : tie.After-min → Extent
 extent c = record {
   width = counted c .before .before .natural .result;
   height = counted c .before .natural2 .result;
   channels = c .before .natural4 .result;
   layers = counted c .natural3 .result;
   start = positionOf (memory (start (counted c .before .before)));
-  due = c .least .result;
+  due = c .min .result;
 }
 
-same : (c : tie.After-least) → let s = start (counted c .before .before) in inputsBy (extent c) (s .args .dst .now) (s .args .table .now) (s .args .args .now) (s .args .samples .now) ≡ inputs s
+same : (c : tie.After-min) → let s = start (counted c .before .before) in inputsBy (extent c) (s .args .dst .now) (s .args .table .now) (s .args .args .now) (s .args .samples .now) ≡ inputs s
 same c =
     let n = counted c in
     let s = start (n .before .before) in
@@ -98,7 +98,7 @@ writes-requires c κs =
     let d = c .before .before .before .before in
     let s = start (counted d .before .before) in
     let h = min-le-right (s .args .allowance) (5 * (endOf (inputs s) - positionOf (memory s))) in
-    (refl, subst⁻¹ (λ (i : Inputs). Midway i (positionOf (memory s)) (d .least .result) 0 (memory s)) (same d) (call-midway (inputs s) (memory s) (s .pre) _ (omega (arith, made d))))
+    (refl, subst⁻¹ (λ (i : Inputs). Midway i (positionOf (memory s)) (d .min .result) 0 (memory s)) (same d) (call-midway (inputs s) (memory s) (s .pre) _ (omega (arith, made d))))
 
 -- the answer: the writes that were made, and whether the position is the end
 answered : (c : tie.After-acceptance) → let w = ended c in c .acceptance .result ≡ acceptance (uses w) (eqb (positionOf (left w)) (endOf (inputs (start (counted (written w) .before .before)))))

@@ -41,10 +41,10 @@ pass c = c .before .before
 abbrev split : tie.After-struct-known4 Inv-loop μ-loop → tie.Then1 Inv-loop μ-loop
 split c = c .before .before .before
 
-abbrev counted : tie.After-least2 Inv-loop μ-loop → tie.Then1 Inv-loop μ-loop
+abbrev counted : tie.After-min2 Inv-loop μ-loop → tie.Then1 Inv-loop μ-loop
 counted c = split (c .before .before)
 
-abbrev composed : tie.After-fill Inv-loop μ-loop → tie.After-least2 Inv-loop μ-loop
+abbrev composed : tie.After-fill Inv-loop μ-loop → tie.After-min2 Inv-loop μ-loop
 composed c = c .before .before .before .before
 
 abbrev written : tie.After-write-out Inv-loop μ-loop → tie.After-fill Inv-loop μ-loop
@@ -74,11 +74,11 @@ unfolding natOf
 some c = some-pixel (inputs (start (pass c))) _ (room c)
 
 -- the span that is next
-next : (c : tie.After-least2 Inv-loop μ-loop) → let l = pass (counted c) in let s = start l in Span (inputs s) (s .args .extent .start) (s .args .extent .due) (l .loop .uses) (c .least2 .result) (found l)
+next : (c : tie.After-min2 Inv-loop μ-loop) → let l = pass (counted c) in let s = start l in Span (inputs s) (s .args .extent .start) (s .args .extent .due) (l .loop .uses) (c .min2 .result) (found l)
 unfolding natOf
 next c =
     let t = counted c in
-    span (midway (pass t)) (pass t .loop .inv .1 (t .if1 .taken)) (t .if1 .taken) (c .before .least .ensures) (c .least2 .ensures)
+    span (midway (pass t)) (pass t .loop .inv .1 (t .if1 .taken)) (t .if1 .taken) (c .before .min .ensures) (c .min2 .ensures)
 
 loop-holds : tie.Need-loop-holds Inv-loop μ-loop
 unfolding runOf

@@ -8,7 +8,7 @@ use lib.Signed.{ltZ}
 use mir.Syntax.{w64}
 use mir.Val.{toZ, ofZ}
 use mir.Facts.{toZ-ofZ}
-use Rattle.layers.specs.Cells.{cellOf, natOf, badShape, areaOf}
+use Rattle.layers.specs.Cells.{cellOf, natOf, badShape, sampleCount}
 use Rattle.layers.specs.Faults.{badSource}
 use Rattle.layers.specs.Limits.{atFirst, atWidth, atHeight, atChannels}
 use Rattle.layers.proofs.Ranges.{shaped, area-most, nat-mag, shape-as, area-at}
@@ -42,7 +42,7 @@ shape c = shape-as (c .bad-shape .ensures) (width (c .before .before .before)) (
 fine : (c : tie.Else2) → badShape (cellOf (start (c .before) .args .table .now) (start (c .before) .args .k) atWidth) (cellOf (start (c .before) .args .table .now) (start (c .before) .args .k) atHeight) (cellOf (start (c .before) .args .table .now) (start (c .before) .args .k) atChannels) ≡ false
 fine c = sym (shape (c .before)) ∙ c .if2 .left
 
-area : (c : tie.After-area) → c .area .result ≡ areaOf (cellOf (start (c .before .before .before) .args .table .now) (start (c .before .before .before) .args .k) atWidth) (cellOf (start (c .before .before .before) .args .table .now) (start (c .before .before .before) .args .k) atHeight) (cellOf (start (c .before .before .before) .args .table .now) (start (c .before .before .before) .args .k) atChannels)
+area : (c : tie.After-area) → c .area .result ≡ sampleCount (cellOf (start (c .before .before .before) .args .table .now) (start (c .before .before .before) .args .k) atWidth) (cellOf (start (c .before .before .before) .args .table .now) (start (c .before .before .before) .args .k) atHeight) (cellOf (start (c .before .before .before) .args .table .now) (start (c .before .before .before) .args .k) atChannels)
 area c =
     let b = c .before .before .before in
     area-at (c .area .ensures) (width (b .before .before .before)) (height (b .before .before)) (channels (b .before))
