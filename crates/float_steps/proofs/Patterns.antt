@@ -9,18 +9,12 @@ use lib.Pow.{pow-add, pow-pos, pow-mono}
 use lib.Ieee.{Float, nan, inf, fin, binary32, down, size, odd, units, ofFields, ofBits, toBits, fits}
 use lib.Ieee.Digits.{size-lt, size-le}
 use lib.Ieee.Fits.{down-pos, odd-fits}
-use lib.Ieee.Bits.{ofBits-toBits, toBits-ofBits, toBits-lt, ofBits-fits, nanBits-is, is-true, is-false, cond-no}
+use lib.Ieee.Bits.{ofBits-toBits, toBits-ofBits, nanBits-is, is-true, is-false, cond-no}
 use lib.Ieee.Exact.{HasValue, odd-sign, units-val}
 use Rattle.float_steps.specs.Words.{valueOf, wordOf}
 use Rattle.float_steps.proofs.Nan.{not-nan-word, nan-word}
 
--- ---- words and values undo each other; every value that an `f32` holds passes `fits`, and a word's value does
-pub value-fits : (w : ℕ) → T (fits binary32 (valueOf w))
-value-fits w = ofBits-fits binary32 w
-
-pub word-below : (v : Float) → T (fits binary32 v) → wordOf v < 2 ^ 32
-word-below v f = toBits-lt binary32 v f
-
+-- ---- words and values undo each other; every value that an `f32` holds passes `fits`
 pub value-of-word : (v : Float) → T (fits binary32 v) → valueOf (wordOf v) ≡ v
 value-of-word v f = ofBits-toBits binary32 v f
 

@@ -1,4 +1,5 @@
--- The sign of a difference: y - x is -(x - y), but for the sign of a zero; and of a product: (-x) y is -(x y). NaN and the infinities included. Over the format. Assumes nothing.
+-- The sign of a difference: y - x is -(x - y), but for the sign of a zero; and of a product: (-x) y is -(x y). NaN and the infinities included. Over the
+-- format. Assumes nothing.
 use mathlib.Core.Path.{_≡_, refl, sym, ap, _∙_}
 use mathlib.Core.Bool.{Bool, true, false, not, cond, _&&_}
 use Prim.Native.Nat.{ℕ, zero, suc, _+_, _-_, _*_, _/_, _%_, _^_, _≤_, _<_, compare}

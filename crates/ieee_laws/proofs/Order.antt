@@ -1,5 +1,5 @@
--- The order of values. It is not both ways, a tie is the same value, equality is symmetric and is sameness, and the two zeros stand at one place. Over the format where it matters.
--- Assumes nothing.
+-- The order of values. It is not both ways, a tie is the same value, equality is symmetric and is sameness, and the two zeros stand at one place. Over the
+-- format where it matters. Assumes nothing.
 use mathlib.Core.Path.{_≡_, refl, sym, ap, _∙_, subst}
 use mathlib.Core.Bool.{Bool, true, false, not, _&&_, _||_, Bool·beq, true≢false}
 use Prim.Native.Nat.{ℕ, zero, suc, _+_, _*_, _≤_, _<_, zero-le}

@@ -1,5 +1,5 @@
--- The square root of a number from 0 to 1, counted in binary32's smallest values, of which M = 2 ^ 149 are 1: it is at most 1, and from a quarter on at least the number itself.
--- Assumes nothing.
+-- The square root of a number from 0 to 1, counted in binary32's smallest values, of which M = 2 ^ 149 are 1: it is at most 1, and from a quarter on at
+-- least the number itself. Assumes nothing.
 use mathlib.Core.Path.{_≡_, refl, sym, ap, _∙_, subst}
 use mathlib.Core.Logic.{inl, inr}
 use mathlib.Core.Bool.{Bool, true, false, cond, true≢false}

@@ -1,5 +1,5 @@
--- Numbers with a clear sign, counted in units of the format's smallest value: how fine such a number is, and sums, differences, products and rounding in these units.
--- Over the format. Assumes nothing.
+-- Numbers with a clear sign, counted in units of the format's smallest value: how fine such a number is, and sums, differences, products and rounding in
+-- these units. Over the format. Assumes nothing.
 use mathlib.Core.Path.{_≡_, refl, sym, ap, _∙_, subst}
 use mathlib.Core.Logic.{_⊎_, inl, inr}
 use mathlib.Core.Bool.{Bool, true, false, not, cond, true≢false}

@@ -1,6 +1,6 @@
 -- An enum whose variants hold nothing. A test that is computed for each variant holds of every value; two values with one tag are one; and an arm of a
--- `match` that several variants share, as `A | B` or `_`, has what is computed for those, if they are all that meet its test, in the enum's order. What the toolchain makes of an enum (its `Record`) is all
--- that is used, so that no variant is named here. Assumes nothing.
+-- `match` that several variants share, as `A | B` or `_`, has what is computed for those, if they are all that meet its test, in the enum's order. What the
+-- toolchain makes of an enum (its `Record`) is all that is used, so that no variant is named here. Assumes nothing.
 use mathlib.Core.Path.{_≡_, refl, sym, ap, subst, _∙_}
 use mathlib.Core.Bool.{Bool, true, false, not, _&&_}
 use mathlib.Core.List.{List, [], _∷_}

@@ -108,9 +108,9 @@ pub data Formula : Type 0 where
   blend : (Float → Float → Float) → Formula
   modulus : (Float → Float → Float) → Formula
 
--- One line an operator: its arm of `pixel` (composite.rs 650 to 852), or of `blend_inner` (composite.rs 957 to 1031), which the last arm of `pixel`
--- comes to. The parameters p are the operator's arguments, with their defaults in place. Displace, Distort and Blur read the source as a map: their line is the Rust's,
--- and composition does not come here for them. Interpolate is refused (document 01, CURVE): its line is never used.
+-- One line an operator: its arm of `pixel` (composite.rs 650 to 852), or of `blend_inner` (composite.rs 957 to 1031), which the last arm of `pixel` comes
+-- to. The parameters p are the operator's arguments, with their defaults in place. Displace, Distort and Blur read the source as a map: their line is the
+-- Rust's, and composition does not come here for them. Interpolate is refused (document 01, CURVE): its line is never used.
 abbrev pub formulaOf : CompositeOp → Params → Formula
 formulaOf O.Over p = pixel (λ s d. overOf s d)
 formulaOf O.In p = pixel (λ s d. premultOf s (s .a ⊗ d .a))

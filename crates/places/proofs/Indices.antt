@@ -97,8 +97,6 @@ axis-as side x e p q = rw (← p, ← q) e
 pub record OnSource (tile : Bool) (sw sh : ℕ) (corner : Corner) (x y n : ℕ) : Type 0 where
   pub column : ℕ
   pub row : ℕ
-  pub column-at : axisIndex (tiles tile sw sh) sw (pos x -ℤ corner .x) ≡ At column
-  pub row-at : axisIndex (tiles tile sw sh) sh (pos y -ℤ corner .y) ≡ At row
   pub column-below : column < sw
   pub row-below : row < sh
   pub index : row * sw + column ≡ n
@@ -108,8 +106,6 @@ module _ (tile : Bool) (sw sh : ℕ) (corner : Corner) (x y n : ℕ) where
   by-indices (At i) (At j) p q e = record {
     column = i;
     row = j;
-    column-at = p;
-    row-at = q;
     column-below = axis-below (tiles tile sw sh) sw (pos x -ℤ corner .x) i p;
     row-below = axis-below (tiles tile sw sh) sh (pos y -ℤ corner .y) j q;
     index = cc;

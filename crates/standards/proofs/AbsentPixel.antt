@@ -1,5 +1,5 @@
--- A pixel of numbers from 0 to 1 with an alpha of 0 is W3C's as printed, in every mode: co itself in the six modes that do not divide, and co over W3C's alpha in the five that do,
--- where the other alpha is not 0. Assumes nothing.
+-- A pixel of numbers from 0 to 1 with an alpha of 0 is W3C's as printed, in every mode: co itself in the six modes that do not divide, and co over W3C's
+-- alpha in the five that do, where the other alpha is not 0. Assumes nothing.
 use mathlib.Core.Path.{_≡_, refl, sym, ap, _∙_, subst}
 use mathlib.Core.Logic.{inl, inr}
 use mathlib.Core.Bool.{Bool, true, false, not, _&&_}

@@ -1,5 +1,5 @@
--- On numbers from 0 to 1: what W3C mixes needs no clamp; with one alpha 0 or 1 the four steps of the mixing make no difference; with one alpha 0 alpha is W3C's.
--- Assumes nothing.
+-- On numbers from 0 to 1: what W3C mixes needs no clamp; with one alpha 0 or 1 the four steps of the mixing make no difference; with one alpha 0 alpha is
+-- W3C's. Assumes nothing.
 use mathlib.Core.Path.{_≡_, refl, sym, ap, _∙_, subst}
 use mathlib.Core.Logic.{_⊎_, inl, inr}
 use mathlib.Core.Bool.{Bool, true, false, _||_}

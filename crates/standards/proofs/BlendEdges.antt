@@ -1,5 +1,5 @@
--- Where the steps of BlendSteps.antt make no difference: the mixing, where one of the alphas is 0 or 1 and the numbers are finite; alpha, where one is 0 and the other
--- finite, and where both are 1. Assumes nothing.
+-- Where the steps of BlendSteps.antt make no difference: the mixing, where one of the alphas is 0 or 1 and the numbers are finite; alpha, where one is 0
+-- and the other finite, and where both are 1. Assumes nothing.
 use mathlib.Core.Path.{_≡_, refl, sym, ap, _∙_}
 use lib.Dec.{T}
 use lib.Ieee.{Float, binary32, ofBits, add, mul, sub, fits}

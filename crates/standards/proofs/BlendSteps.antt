@@ -1,5 +1,5 @@
--- W3C's formula by its steps: with none of them exchanged it is what W3C prints, by computation; and with a mode's own, its blend function is the compositor's, for all
--- values. Assumes nothing.
+-- W3C's formula by its steps: with none of them exchanged it is what W3C prints, by computation; and with a mode's own, its blend function is the
+-- compositor's, for all values. Assumes nothing.
 use mathlib.Core.Path.{_≡_, refl, ap}
 use mathlib.Core.Bool.{Bool, true, false, cond}
 use mathlib.Core.List.{[]}

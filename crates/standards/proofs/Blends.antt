@@ -1,5 +1,5 @@
--- Each blend function of the compositor is W3C's B, outside the inputs of BlendDifferences.antt: Multiply, Screen, Darken, Lighten, SoftLight and Difference for all values.
--- Assumes nothing.
+-- Each blend function of the compositor is W3C's B, outside the inputs of BlendDifferences.antt: Multiply, Screen, Darken, Lighten, SoftLight and
+-- Difference for all values. Assumes nothing.
 use mathlib.Core.Path.{_≡_, refl, sym, ap, _∙_, subst}
 use mathlib.Core.Bool.{Bool, true, false, cond, _&&_, _||_, true≢false}
 use lib.Dec.{T}

@@ -1,5 +1,5 @@
--- `BlendOutside` excludes no input at which the two blend functions are equal: where they are, it holds. Exclusion's is left out: that two differences are equal only where their
--- products are is not proved. Assumes nothing.
+-- `BlendOutside` excludes no input at which the two blend functions are equal: where they are, it holds. Exclusion's is left out: that two differences are
+-- equal only where their products are is not proved. Assumes nothing.
 use mathlib.Core.Path.{_≡_, refl, sym, ap, _∙_, subst}
 use mathlib.Core.Bool.{Bool, true, false, cond, not, _&&_, _||_, true≢false}
 use lib.Dec.{T}

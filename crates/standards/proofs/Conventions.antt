@@ -1,5 +1,5 @@
--- What the compositor stores of a blended colour, by its convention: a name for each of the formulas that proofs speak of, with the blend function as a parameter.
--- `by-steps` says that each is W3C's formula with a mode's steps, whatever the blend function. Assumes nothing.
+-- What the compositor stores of a blended colour, by its convention: a name for each of the formulas that proofs speak of, with the blend function as a
+-- parameter. `by-steps` says that each is W3C's formula with a mode's steps, whatever the blend function. Assumes nothing.
 use mathlib.Core.Path.{_≡_, refl, ap}
 use mathlib.Core.Logic.{_⊎_}
 use mathlib.Core.Bool.{false, cond}

@@ -1,5 +1,6 @@
--- On the documents' own domain, numbers from 0 to 1: every hypothesis of PorterDuff.antt holds there but the one for the colours of Over and DstOver, that the coverage is not at
--- most 0; and what W3C's modes store is so with B as printed, but for ColorBurn of black on white where the product of the alphas is not 0. Assumes nothing.
+-- On the documents' own domain, numbers from 0 to 1: every hypothesis of PorterDuff.antt holds there but the one for the colours of Over and DstOver, that
+-- the coverage is not at most 0; and what W3C's modes store is so with B as printed, but for ColorBurn of black on white where the product of the alphas is
+-- not 0. Assumes nothing.
 use mathlib.Core.Path.{_≡_, refl, sym, _∙_, subst}
 use mathlib.Core.Logic.{inl, inr}
 use mathlib.Core.Bool.{Bool, true, false, not, _&&_, true≢false}

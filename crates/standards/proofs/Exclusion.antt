@@ -1,5 +1,5 @@
--- On numbers from 0 to 1 Exclusion's blend, x + y - 2 x y with each step rounded, lies within 0 and 1. In the units of UnitSteps.antt: the product is never above the sum; and
--- where the sum is 1 or more, one of the two is a half or more, so that the product is at least the other. Assumes nothing.
+-- On numbers from 0 to 1 Exclusion's blend, x + y - 2 x y with each step rounded, lies within 0 and 1. In the units of UnitSteps.antt: the product is never
+-- above the sum; and where the sum is 1 or more, one of the two is a half or more, so that the product is at least the other. Assumes nothing.
 use mathlib.Core.Path.{_≡_, refl, sym, ap, _∙_, subst}
 use mathlib.Core.Bool.{Bool, true, false}
 use Prim.Native.Nat.{ℕ, _+_, _-_, _*_, _≤_, _<_}

@@ -1,5 +1,6 @@
--- Where the steps of FractionDifferences.antt make no difference: a product regrouped, if the coverage or the fraction is 0 or 1 and the others are finite; Atop's alpha, if it is
--- finite and the source covers all or nothing, or if the destination covers nothing; Plus's cut, if the sum is a number not above 1. Assumes nothing.
+-- Where the steps of FractionDifferences.antt make no difference: a product regrouped, if the coverage or the fraction is 0 or 1 and the others are finite;
+-- Atop's alpha, if it is finite and the source covers all or nothing, or if the destination covers nothing; Plus's cut, if the sum is a number not above 1.
+-- Assumes nothing.
 use mathlib.Core.Path.{_≡_, refl, sym, ap, _∙_}
 use mathlib.Core.Bool.{false, cond}
 use lib.Dec.{T}

@@ -1,6 +1,7 @@
--- The operators that Porter and Duff define, in one theorem over the thirteen: first a colour, then the alpha. s is the source's pixel, d the destination's, and c any of the
--- three colours. The right side is the paper's two sums with the operator's steps exchanged (`steps`, specs/FractionSteps.antt) and nothing else, to a zero's sign, for all
--- values, NaN and the infinities included; with no step exchanged they are the paper's, by computation. Assumes nothing.
+-- The operators that Porter and Duff define, in one theorem over the thirteen: first a colour, then the alpha. s is the source's pixel, d the
+-- destination's, and c any of the three colours. The right side is the paper's two sums with the operator's steps exchanged (`steps`,
+-- specs/FractionSteps.antt) and nothing else, to a zero's sign, for all values, NaN and the infinities included; with no step exchanged they are the
+-- paper's, by computation. Assumes nothing.
 use mathlib.Core.Path.{_≡_, refl, sym, ap, _∙_}
 use mathlib.Core.Bool.{Bool, true, false, cond}
 use mathlib.Core.List.{[]}

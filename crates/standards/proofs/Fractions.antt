@@ -1,6 +1,6 @@
--- Every operator that Porter and Duff define is theirs: the alpha and each colour of the compositor's pixel are the paper's two sums, in the form in which document 01
--- has them stored, with the steps of FractionDifferences.antt and outside its inputs. Porter and Duff's thirteen are one theorem for alpha and one for the colours.
--- Assumes nothing.
+-- Every operator that Porter and Duff define is theirs: the alpha and each colour of the compositor's pixel are the paper's two sums, in the form in which
+-- document 01 has them stored, with the steps of FractionDifferences.antt and outside its inputs. Porter and Duff's thirteen are one theorem for alpha and
+-- one for the colours. Assumes nothing.
 use mathlib.Core.Path.{_≡_, refl, sym, ap, _∙_, subst}
 use mathlib.Core.Bool.{Bool, true, false, cond}
 use lib.Dec.{T}

@@ -1,5 +1,5 @@
--- On numbers from 0 to 1 HardLight's blend lies within 0 and 1: a number up to a half doubles to one up to 1, and past a half 2 s - 1 is one again, so that Screen's bound
--- serves. In the units of UnitSteps.antt. Assumes nothing.
+-- On numbers from 0 to 1 HardLight's blend lies within 0 and 1: a number up to a half doubles to one up to 1, and past a half 2 s - 1 is one again, so that
+-- Screen's bound serves. In the units of UnitSteps.antt. Assumes nothing.
 use mathlib.Core.Path.{_≡_, refl, sym, ap, _∙_, subst}
 use mathlib.Core.Bool.{Bool, true, false, cond, _||_, true≢false}
 use Prim.Native.Nat.{ℕ, _-_, _*_, _≤_}

@@ -1,6 +1,6 @@
--- Two alphas x and y, counted in a unit of which M is 1: the sum of their three rounded shares x y, x (1 - y) and y (1 - x) exceeds M by at most 4 E, where 4 E is the distance of
--- neighbours below M, so that the sum rounds to at most 1. A part of that proof that is about whole numbers alone: H is half of M, and each rounding is given by what it
--- may err. Assumes nothing.
+-- Two alphas x and y, counted in a unit of which M is 1: the sum of their three rounded shares x y, x (1 - y) and y (1 - x) exceeds M by at most 4 E, where
+-- 4 E is the distance of neighbours below M, so that the sum rounds to at most 1. A part of that proof that is about whole numbers alone: H is half of M,
+-- and each rounding is given by what it may err. Assumes nothing.
 use mathlib.Core.Path.{_≡_, refl, sym, ap, _∙_, subst}
 use mathlib.Core.Logic.{_⊎_, inl, inr}
 use mathlib.Core.Bool.{Bool, true, false}

@@ -1,5 +1,6 @@
--- The hypotheses of PorterDuff.antt exclude no input at which the two sides are equal: where a colour or an alpha is the paper's, its hypothesis holds. Over and DstOver's colours are
--- left out: where nothing is covered they keep the destination's colour, which the paper's quotient may happen to be. Assumes nothing.
+-- The hypotheses of PorterDuff.antt exclude no input at which the two sides are equal: where a colour or an alpha is the paper's, its hypothesis holds.
+-- Over and DstOver's colours are left out: where nothing is covered they keep the destination's colour, which the paper's quotient may happen to be.
+-- Assumes nothing.
 use mathlib.Core.Path.{_≡_, refl, sym, ap, _∙_, subst}
 use mathlib.Core.Bool.{Bool, true, false, cond, _||_}
 use lib.Dec.{T}

@@ -1,5 +1,5 @@
--- Multiply, Screen, Lighten, Difference and Exclusion on numbers from 0 to 1: the clamps have nothing to do. The stored colour of the first four is W3C's formula with
--- the four steps of its mixing alone, and where an alpha is 0 or 1 it is W3C's co as printed. Assumes nothing.
+-- Multiply, Screen, Lighten, Difference and Exclusion on numbers from 0 to 1: the clamps have nothing to do. The stored colour of the first four is W3C's
+-- formula with the four steps of its mixing alone, and where an alpha is 0 or 1 it is W3C's co as printed. Assumes nothing.
 use mathlib.Core.Path.{_≡_, ap, _∙_}
 use mathlib.Core.Logic.{inl}
 use mathlib.Core.Bool.{Bool, not, _&&_, _||_}

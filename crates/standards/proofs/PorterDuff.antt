@@ -1,6 +1,7 @@
--- The thirteen operators that Porter and Duff define, one theorem each, in the operator's form: first a colour, then the alpha. s is the source's pixel, d the destination's, and
--- c any of the three colours. A hypothesis excludes inputs that docs/DIFFERENCES.md lists, and, but for the colours of Over and DstOver, no input at which the two sides are
--- equal (Needed.antt). Each is an instance of Fractions.antt. `operator-is` (FractionSteps.antt) has what is stored, without a hypothesis. Assumes nothing.
+-- The thirteen operators that Porter and Duff define, one theorem each, in the operator's form: first a colour, then the alpha. s is the source's pixel, d
+-- the destination's, and c any of the three colours. A hypothesis excludes inputs that docs/DIFFERENCES.md lists, and, but for the colours of Over and
+-- DstOver, no input at which the two sides are equal (Needed.antt). Each is an instance of Fractions.antt. `operator-is` (FractionSteps.antt) has what is
+-- stored, without a hypothesis. Assumes nothing.
 use mathlib.Core.Path.{_≡_}
 use mathlib.Core.Bool.{true, false}
 use lib.Dec.{T}

@@ -1,5 +1,5 @@
--- On numbers from 0 to 1 Screen's blend, x + y - x y with each step rounded, is at most 1. In the units of UnitSteps.antt: the sum errs by 4 E at most, the product by less, and
--- what is too much is at most 4 E, which rounds to 1. Assumes nothing.
+-- On numbers from 0 to 1 Screen's blend, x + y - x y with each step rounded, is at most 1. In the units of UnitSteps.antt: the sum errs by 4 E at most, the
+-- product by less, and what is too much is at most 4 E, which rounds to 1. Assumes nothing.
 use mathlib.Core.Path.{_≡_, refl, sym, ap, _∙_, subst}
 use mathlib.Core.Logic.{inl, inr}
 use mathlib.Core.Bool.{Bool, true, false}

@@ -1,5 +1,6 @@
--- On numbers from 0 to 1 SoftLight's blend lies within 0 and 1. In the units of UnitSteps.antt: D(b) lies from b to 1, up to a quarter by its polynomial and from there on as a root;
--- so b and a part of D(b) - b, which errs by 4 E at most, make at most 1. Up to a half, what is taken from b is at most b. Assumes nothing.
+-- On numbers from 0 to 1 SoftLight's blend lies within 0 and 1. In the units of UnitSteps.antt: D(b) lies from b to 1, up to a quarter by its polynomial
+-- and from there on as a root; so b and a part of D(b) - b, which errs by 4 E at most, make at most 1. Up to a half, what is taken from b is at most b.
+-- Assumes nothing.
 use mathlib.Core.Path.{_≡_, refl, sym, ap, _∙_, subst}
 use mathlib.Core.Bool.{Bool, true, false, cond, _||_}
 use Prim.Native.Nat.{ℕ, zero, suc, _+_, _-_, _*_, _^_, _≤_, _<_, zero-le}

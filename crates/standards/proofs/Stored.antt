@@ -1,5 +1,5 @@
--- Every operator that W3C defines is W3C's: each colour of the compositor's pixel, and its alpha, is W3C's formula with the steps of BlendSteps.antt, for all values. The formula
--- is proved once for each convention, over the blend function. Assumes nothing.
+-- Every operator that W3C defines is W3C's: each colour of the compositor's pixel, and its alpha, is W3C's formula with the steps of BlendSteps.antt, for
+-- all values. The formula is proved once for each convention, over the blend function. Assumes nothing.
 use mathlib.Core.Path.{_≡_, refl, sym, ap, _∙_, subst}
 use mathlib.Core.Logic.{inl, inr}
 use mathlib.Core.Bool.{Bool, true, false, cond}

@@ -1,5 +1,5 @@
--- Over and DstOver where both alphas are 0 and the colours finite: there is no quotient, the destination's colour is kept, and the pixel is the paper's all the same: its colour
--- times its alpha is the paper's colour, and its alpha the paper's coverage. Assumes nothing.
+-- Over and DstOver where both alphas are 0 and the colours finite: there is no quotient, the destination's colour is kept, and the pixel is the paper's all
+-- the same: its colour times its alpha is the paper's colour, and its alpha the paper's coverage. Assumes nothing.
 use mathlib.Core.Path.{refl, sym, ap, _∙_}
 use lib.Dec.{T}
 use lib.Ieee.{Float, binary32, fits}

@@ -1,6 +1,6 @@
--- Steps on binary32 between 0 and 1 as whole numbers: a number is counted in the format's smallest value, of which M = 2 ^ 149 are 1 and H = 2 ^ 148 a half; below a half
--- neighbours are 2 E = 2 ^ 124 apart at most, and below 1 they are U = 2 ^ 125. What a product, a complement and a sum may err is brought to the records of
--- Mixture.antt. Assumes nothing.
+-- Steps on binary32 between 0 and 1 as whole numbers: a number is counted in the format's smallest value, of which M = 2 ^ 149 are 1 and H = 2 ^ 148 a
+-- half; below a half neighbours are 2 E = 2 ^ 124 apart at most, and below 1 they are U = 2 ^ 125. What a product, a complement and a sum may err is
+-- brought to the records of Mixture.antt. Assumes nothing.
 use mathlib.Core.Path.{_≡_, refl, sym, ap, _∙_, subst}
 use mathlib.Core.Logic.{inl, inr}
 use mathlib.Core.Bool.{Bool, true, false}

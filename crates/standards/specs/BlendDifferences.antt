@@ -1,5 +1,5 @@
--- The inputs at which the steps of W3C's blend functions show (BlendSteps.antt: blackFirst, secondAtHalf, belowZero, aboveOne, sourceDoubled). docs/DIFFERENCES.md
--- lists them, and Rows.antt has an input for each. Definitions only.
+-- The inputs at which the steps of W3C's blend functions show (BlendSteps.antt: blackFirst, secondAtHalf, belowZero, aboveOne, sourceDoubled).
+-- docs/DIFFERENCES.md lists them, and Rows.antt has an input for each. Definitions only.
 use mathlib.Core.Path.{_≡_}
 use mathlib.Core.Bool.{Bool, true, false, not, _&&_}
 use lib.Ieee.{Float, nan, inf, fin, lt, le, eq}
@@ -24,16 +24,16 @@ pub record DodgeOutside (Cs Cb : Float) : Type 0 where
 abbrev pub burnt : Float → Float → Float
 burnt Cb Cs = f1 ⊖ smallerOf f1 ((f1 ⊖ Cb) ⊘ Cs)
 
--- ColorBurn is 0 wherever Cs is at most 0, and else 1 wherever Cb is at least 1; W3C's is 1 at Cb = 1, and else 0 at Cs = 0. No difference where Cb is not 1, for a
--- Cs of at most 0, and W3C's quotient comes to the same: to 0 for a Cs below 0, and to 1 for a Cb above 1 beside a Cs that is not at most 0
+-- ColorBurn is 0 wherever Cs is at most 0, and else 1 wherever Cb is at least 1; W3C's is 1 at Cb = 1, and else 0 at Cs = 0. No difference where Cb is not
+-- 1, for a Cs of at most 0, and W3C's quotient comes to the same: to 0 for a Cs below 0, and to 1 for a Cb above 1 beside a Cs that is not at most 0
 pub record BurnOutside (Cs Cb : Float) : Type 0 where
   pub white : le Cs f0 ≡ true → eq Cb f1 ≡ false
   pub below : lt Cs f0 ≡ true → Zero (burnt Cb Cs)
   pub above : le Cs f0 ≡ false → lt f1 Cb ≡ true → Same (burnt Cb Cs) f1
 
--- The blend functions are equal where this holds (`blend-is`), and but for Exclusion only there (`blend-needed`). A half: the compositor takes the second branch,
--- which gives what W3C's first one does but where the other colour is infinite. Exclusion doubles the other colour: no difference where neither double overflows
--- (`doubled-alike`).
+-- The blend functions are equal where this holds (`blend-is`), and but for Exclusion only there (`blend-needed`). A half: the compositor takes the second
+-- branch, which gives what W3C's first one does but where the other colour is infinite. Exclusion doubles the other colour: no difference where neither
+-- double overflows (`doubled-alike`).
 abbrev pub BlendOutside : Mode → Float → Float → Type 0
 BlendOutside multiply Cs Cb = Unit {0}
 BlendOutside screen Cs Cb = Unit {0}

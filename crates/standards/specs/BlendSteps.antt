@@ -11,9 +11,10 @@ use Rattle.float_steps.specs.Sign.{absOf}
 use Rattle.standards.specs.Lists.{amongBy}
 use Rattle.standards.specs.Compositing.{Mode, multiply, screen, overlay, darken, lighten, colorDodge, colorBurn, hardLight, softLight, difference, exclusion, multiplyB, screenB, softLightB}
 
--- By the sections of docs/DIFFERENCES.md: document 01's own, 3 to 7 (`premultiplied` is so for Darken; for Exclusion it is section 20); alpha, 15; the mixing, 16; the
--- clamps, 17; nothing covered, 18; the blend functions, 19. A step that has its place inside another one does nothing without it: `zeroUncovered` inside `divided`;
--- `dropped`, the last three of the mixing, and, in `premultiplied`, that the blended term is not multiplied by the alphas again, inside `distributed`.
+-- By the sections of docs/DIFFERENCES.md: document 01's own, 3 to 7 (`premultiplied` is so for Darken; for Exclusion it is section 20); alpha, 15; the
+-- mixing, 16; the clamps, 17; nothing covered, 18; the blend functions, 19. A step that has its place inside another one does nothing without it:
+-- `zeroUncovered` inside `divided`; `dropped`, the last three of the mixing, and, in `premultiplied`, that the blended term is not multiplied by the alphas
+-- again, inside `distributed`.
 pub data Step : Type 0 where
   blackFirst premultiplied dropped secondAtHalf divided unionAlpha distributed sourceGrouped blendGrouped uncoveredFirst clampedBlend clampedResult zeroUncovered belowZero aboveOne sourceDoubled : Step
 

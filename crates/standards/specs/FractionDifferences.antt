@@ -1,6 +1,6 @@
--- Porter and Duff's colour and coverage in the form in which the compositor's pixel has them (document 01's, and Plus's cut), with the steps `coverageFirst` and
--- `keptAlpha` of FractionSteps.antt; and the inputs at which its other steps show: a term that is left out, a pixel that is cleared, a coverage of at most 0.
--- Definitions only.
+-- Porter and Duff's colour and coverage in the form in which the compositor's pixel has them (document 01's, and Plus's cut), with the steps
+-- `coverageFirst` and `keptAlpha` of FractionSteps.antt; and the inputs at which its other steps show: a term that is left out, a pixel that is cleared, a
+-- coverage of at most 0. Definitions only.
 use mathlib.Core.Path.{_≡_}
 use mathlib.Core.Bool.{false, _||_}
 use lib.Dec.{T}

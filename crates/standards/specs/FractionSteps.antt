@@ -1,6 +1,6 @@
--- Porter and Duff's two sums (PorterDuff.antt) by their steps. A step is one place of the sums that the compositor writes otherwise; `colourBy` and `alphaBy` are
--- what is stored with the steps of a list exchanged, so that with none they are the paper's colour and coverage (`colour-printed` and `alpha-printed`,
--- proofs/FractionSteps.antt). `steps` lists each operator's: docs/DIFFERENCES.md has a section for each of them. Definitions only.
+-- Porter and Duff's two sums (PorterDuff.antt) by their steps. A step is one place of the sums that the compositor writes otherwise; `colourBy` and
+-- `alphaBy` are what is stored with the steps of a list exchanged, so that with none they are the paper's colour and coverage (`colour-printed` and
+-- `alpha-printed`, proofs/FractionSteps.antt). `steps` lists each operator's: docs/DIFFERENCES.md has a section for each of them. Definitions only.
 use Prim.Native.Nat.{ℕ}
 use mathlib.Core.Bool.{Bool, true, false, cond, not, _&&_, _||_}
 use mathlib.Core.List.{List, [], _∷_}

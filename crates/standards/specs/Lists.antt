@@ -1,4 +1,5 @@
--- Lists of steps, of either document: whether a step k is among them, the list without it, and those before it. Two steps are compared by their numbers n. Definitions only.
+-- Lists of steps, of either document: whether a step k is among them, the list without it, and those before it. Two steps are compared by their numbers n.
+-- Definitions only.
 use Prim.Native.Nat.{ℕ}
 use mathlib.Core.Bool.{Bool, true, false, cond, not, _&&_, _||_}
 use mathlib.Core.List.{List, [], _∷_}

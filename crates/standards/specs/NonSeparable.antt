@@ -1,5 +1,5 @@
--- W3C, "Compositing and Blending Level 1": the four non-separable modes, on two opaque colours. Document 01: Hue, Saturate, Luminize and Colorize use HSL, unlike these. They
--- are here for the input at which each differs. Definitions only.
+-- W3C, "Compositing and Blending Level 1": the four non-separable modes, on two opaque colours. Document 01: Hue, Saturate, Luminize and Colorize use HSL,
+-- unlike these. They are here for the input at which each differs. Definitions only.
 use mathlib.Core.Bool.{cond}
 use lib.Ieee.{Float, lt, eq}
 use Rattle.float_steps.specs.Notation.{_⊕_, _⊖_, _⊗_, _⊘_, f0, f1}

@@ -1,6 +1,6 @@
--- An input for each difference of docs/DIFFERENCES.md: the step, which value of the pixel shows it, the operator, the words of a gray source s with alpha sa and of a gray
--- destination d with alpha da, the word of the compositor's value there, and the document's. The non-separable modes have one input of their own. proofs/Rows.antt shows that each
--- is so. Definitions only.
+-- An input for each difference of docs/DIFFERENCES.md: the step, which value of the pixel shows it, the operator, the words of a gray source s with alpha
+-- sa and of a gray destination d with alpha da, the word of the compositor's value there, and the document's. The non-separable modes have one input of
+-- their own. proofs/Rows.antt shows that each is so. Definitions only.
 use Prim.Native.Nat.{ℕ}
 use mathlib.Core.Bool.{Bool, true, false, not, cond, _&&_, _||_}
 use mathlib.Core.List.{List, [], _∷_, _++_}
@@ -89,8 +89,9 @@ pub data Row : Type 0 where
 abbrev pub word : Float → ℕ
 word x = toBits binary32 (plain x)
 
--- A row shows its step k, one of the operator's list l: x and y are the compositor's value and the document's, and they differ; x is not what the compositor's formula gives with
--- k undone (and with it the steps that have their place inside k); and k changes the value where it is applied, after the steps that stand before it in the list
+-- A row shows its step k, one of the operator's list l: x and y are the compositor's value and the document's, and they differ; x is not what the
+-- compositor's formula gives with k undone (and with it the steps that have their place inside k); and k changes the value where it is applied, after the
+-- steps that stand before it in the list
 abbrev pub differs : Row → Bool
 differs (fractions k v o s sa d da x y) =
     let value : List F.Step → ℕ = λ l. word (fractionBy l v o (lit s) (lit sa) (lit d) (lit da)) in

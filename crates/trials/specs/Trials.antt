@@ -33,7 +33,7 @@ use Rattle.layers.specs.Inputs.{Inputs, inputsOf, badStack, badDst, rowsFault, 
 use Rattle.job.specs.declared.Answer.{Answer}
 use Rattle.job.specs.Memory.{Mem, memOf, positionOf, stored}
 use Rattle.job.specs.Job.{memoryFault, callFault}
-use Rattle.job.specs.Call.{writeAt, runOf, acceptedChannels, callOf}
+use Rattle.job.specs.Call.{writeAt, runOf, acceptedOf, callOf}
 use Rattle.job.specs.Model.{blocks, pictureWrites, writeSequence, Call, allowed, Seen, modelOf}
 use Rattle.job.specs.Demand.{programOf, history}
 use Rattle.tray.specs.Answers.{NameAnswer, nameOf}
@@ -159,5 +159,5 @@ table =
     ∷ []
 
 pub trials : T (all table)
-unfolding wrapOf remEuclidOf sqrtOf byteOf smallerOf clampOf colorBurnOf overUnionOf overBy placementOf axisIndex fromName entries isKept lower history programOf modelOf writeSequence pictureWrites blocks stored callOf acceptedChannels callFault memoryFault jobFault badStack badDst rowsFault layerFault named badPlacing badSource badShape badChannels outsideZ natOf runOf writeAt ofBits toBits add sub mul div rem lt le eq isNan
+unfolding wrapOf remEuclidOf sqrtOf byteOf smallerOf clampOf colorBurnOf overUnionOf overBy placementOf axisIndex fromName entries isKept lower history programOf modelOf writeSequence pictureWrites blocks stored callOf acceptedOf callFault memoryFault jobFault badStack badDst rowsFault layerFault named badPlacing badSource badShape badChannels outsideZ natOf runOf writeAt ofBits toBits add sub mul div rem lt le eq isNan
 trials = tt

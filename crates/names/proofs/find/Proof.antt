@@ -26,11 +26,20 @@ loop-holds c = (omega arith, omega arith, refl)
 shared-slice-read-wide : tie.Need-shared-slice-read-wide Inv-loop μ-loop
 shared-slice-read-wide c = omega arith
 
+-- the turn of the loop, and the start
+abbrev turn : tie.After-wide Inv-loop μ-loop → tie.At-loop Inv-loop μ-loop
+turn c = c .before .before .before
+
+abbrev start : tie.At-loop Inv-loop μ-loop → tie.Start Inv-loop μ-loop
+start l = l .before .before .before .before
+
 -- the k-th name lies within the bytes
 fits : (c : tie.After-wide Inv-loop μ-loop)
-    → c .before .before .before .loop .at + c .wide .result + total (drop (c .before .before .before .loop .k + 1) (c .before .before .before .before .before .before .before .args .lengths .now)) ≤ length (c .before .before .before .before .before .before .before .args .names .now)
+    → let l = turn c in
+      let s = start l in
+      l .loop .at + c .wide .result + total (drop (l .loop .k + 1) (s .args .lengths .now)) ≤ length (s .args .names .now)
 fits c =
-    let l = c .before .before .before in
+    let l = turn c in
     within _ _ (l .loop .k) _ _ (c .before .before .loop-test .taken) (c .wide .ensures) (l .loop .inv .1)
 
 add-end : tie.Need-add-end Inv-loop μ-loop
@@ -49,7 +58,7 @@ returns : tie.Need-returns Inv-loop μ-loop
 returns c =
     let r = c .before in
     let a = r .before .before in
-    let l = a .before .before .before in
+    let l = turn a in
     sym
     (l .loop .inv .2
     ∙ found _ _ _ (l .loop .at) (l .loop .k) (a .wide .result) (a .before .before .loop-test .taken) (a .wide .ensures)
@@ -65,7 +74,7 @@ loop-again : tie.Need-loop-again Inv-loop μ-loop
 loop-again c =
     let r = c .before in
     let a = r .before .before in
-    let l = a .before .before .before in (
+    let l = turn a in (
       omega arith,
       fits a,
       l .loop .inv .2

@@ -16,6 +16,9 @@ Inv-loop s name i₀ j₀ i j = (i ≤ length s) × (j ≤ length name) × (left
 abbrev μ-loop : tie.MeasureT-loop
 μ-loop s name i₀ j₀ i j = length s - i
 
+abbrev turn : tie.After-is-kept Inv-loop μ-loop → tie.At-loop Inv-loop μ-loop
+turn a = a .before .before .before
+
 loop-holds : tie.Need-loop-holds Inv-loop μ-loop
 loop-holds c = (omega arith, omega arith, refl)
 
@@ -25,7 +28,7 @@ shared-slice-read-b c = omega arith
 returns : tie.Need-returns Inv-loop μ-loop
 returns c =
     let a = c .before .before in
-    let l = a .before .before .before in
+    let l = turn a in
     sym (l .loop .inv .2 ∙ word-ended _ _ (l .loop .i) (l .loop .j) (a .before .before .loop-test .taken) (sym (a .is-kept .ensures) ∙ c .before .if1 .taken) (c .if2 .taken))
 
 shared-slice-read-if3 : tie.Need-shared-slice-read-if3 Inv-loop μ-loop
@@ -35,7 +38,7 @@ returns-2 : tie.Need-returns-2 Inv-loop μ-loop
 returns-2 c =
     let e = c .before .before .before in
     let a = e .before .before in
-    let l = a .before .before .before in
+    let l = turn a in
     sym
     (l .loop .inv .2
     ∙ differs _ _ (l .loop .i) (l .loop .j) (a .before .before .loop-test .taken) (sym (a .is-kept .ensures) ∙ e .before .if1 .taken) (e .if2 .left)
@@ -53,7 +56,7 @@ loop-less c = omega arith
 loop-again : tie.Need-loop-again Inv-loop μ-loop
 loop-again c =
     let a = c .before in
-    let l = a .before .before .before in
+    let l = turn a in
     ⊎-elim
     (λ w. (
       omega arith,

@@ -14,19 +14,22 @@ use Rattle.places.proofs.pixel_index.Reads as pixel-index-reads
 use Rattle.places.proofs.repeats.Reads as repeats-reads
 use Rattle.places.proofs.axis_index.Reads as axis-index-reads
 
+abbrev known : tie.After-axis-index2 → tie.After-repeats
+known c = c .before .before .before .before
+
 abbrev start : tie.After-axis-index2 → tie.Start
-start c = c .before .before .before .before .before
+start c = known c .before
 
 column : (c : tie.After-axis-index2) → c .before .before .axis-index .result ≡ axisIndex (tiles (start c .args .tile) (start c .args .sw) (start c .args .sh)) (start c .args .sw) (pos (start c .args .x) -ℤ start c .args .corner .x)
 column c =
     let s = start c in
-    axis-as (s .args .sw) (s .args .x) (c .before .before .axis-index .ensures) (c .before .before .before .before .repeats .ensures)
+    axis-as (s .args .sw) (s .args .x) (c .before .before .axis-index .ensures) (known c .repeats .ensures)
     (back {z = s .args .corner .x} (omega (arith, s .pre .corner-x)))
 
 row : (c : tie.After-axis-index2) → c .axis-index2 .result ≡ axisIndex (tiles (start c .args .tile) (start c .args .sw) (start c .args .sh)) (start c .args .sh) (pos (start c .args .y) -ℤ start c .args .corner .y)
 row c =
     let s = start c in
-    axis-as (s .args .sh) (s .args .y) (c .axis-index2 .ensures) (c .before .before .before .before .repeats .ensures)
+    axis-as (s .args .sh) (s .args .y) (c .axis-index2 .ensures) (known c .repeats .ensures)
     (back {z = s .args .corner .y} (omega (arith, s .pre .corner-y)))
 
 pixel-index-requires : tie.Need-pixel-index-requires

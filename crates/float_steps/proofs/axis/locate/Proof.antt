@@ -17,11 +17,13 @@ int-to-float-held c = in-float binary32 _ (omega (arith, c .before .pre))
 
 int-to-float-t7 : tie.Need-int-to-float-t7
 int-to-float-t7 c =
-    let s = c .before .before .before .before .before in
+    let f = c .before .before in
+    let h = f .before in
+    let s = h .before .before in
     let last = s .args .side - 1 in
-    let within : floorOf (c .before .before .before .held .result) ≤ last =
-    subst (λ (v : Float). floorOf v ≤ last) (sym (c .before .before .before .held .ensures)) (floor-held (s .args .x) last (omega (arith, s .pre))) in
-    in-float binary32 (c .before .before .floor .result) (omega (arith, c .before .before .floor .ensures, s .pre))
+    let within : floorOf (h .held .result) ≤ last =
+    subst (λ (v : Float). floorOf v ≤ last) (sym (h .held .ensures)) (floor-held (s .args .x) last (omega (arith, s .pre))) in
+    in-float binary32 (f .floor .result) (omega (arith, f .floor .ensures, s .pre))
 
 pub locate-spec : {M : Type 1} → statement M
 unfolding axisOf axisAt

@@ -12,15 +12,27 @@ use borrow.Author.Needs.{needs}
 use Rattle.float_steps.proofs.root.sqrt.Statement.{statement}
 use Rattle.float_steps.proofs.root.sqrt.Tie as tie
 
+abbrev start : tie.After-word → tie.Start
+start c = c .before .before
+
 returns : tie.Need-returns
-returns c = sqrt-inf (c .before .before .before .args .v) (told (c .before .before .before .good .0 .1)) (sym (c .before .word .ensures) ∙ c .if2 .taken)
+returns c = let s = start (c .before) in sqrt-inf (s .args .v) (told (s .good .0 .1)) (sym (c .before .word .ensures) ∙ c .if2 .taken)
 
 root-word-requires : tie.Need-root-word-requires
 unfolding ofBits
-root-word-requires c κs = subst (λ (z : ℕ). (0 < z) × (z < 0x7f80_0000)) (sym (c .before .word .ensures)) (above-word (c .before .before .before .args .v) (told (c .before .before .before .good .0 .1)) (c .before .before .if1 .taken) (λ e. c .if2 .left (c .before .word .ensures ∙ e)))
+root-word-requires c κs =
+    let w = c .before in
+    let s = start w in
+    subst (λ (z : ℕ). (0 < z) × (z < 0x7f80_0000)) (sym (w .word .ensures))
+    (above-word (s .args .v) (told (s .good .0 .1)) (w .before .if1 .taken) (λ e. c .if2 .left (w .word .ensures ∙ e)))
 
 returns-2 : tie.Need-returns-2
-returns-2 c = c .value .ensures ∙ c .before .root-word .ensures ∙ ap sqrtOf (ap (λ (z : ℕ). ofBits binary32 z) (c .before .before .before .word .ensures) ∙ ofBits-toBits binary32 (c .before .before .before .before .before .args .v) (told (c .before .before .before .before .before .good .0 .1)))
+returns-2 c =
+    let w = c .before .before .before in
+    let s = start w in
+    c .value .ensures
+    ∙ c .before .root-word .ensures
+    ∙ ap sqrtOf (ap (λ (z : ℕ). ofBits binary32 z) (w .word .ensures) ∙ ofBits-toBits binary32 (s .args .v) (told (s .good .0 .1)))
 
 returns-3 : tie.Need-returns-3
 unfolding ofBits

@@ -15,22 +15,25 @@ returns : tie.Need-returns
 unfolding ofBits
 returns c = byte-high (c .before .args .x) (c .if1 .taken)
 
+abbrev start : tie.After-floor → tie.Start
+start c = c .before .before .before
+
 -- what is floored
-floored : (c : tie.After-floor) → c .floor .result ≡ num (c .before .before .before .args .x) * 2 / den (c .before .before .before .args .x)
+floored : (c : tie.After-floor) → c .floor .result ≡ num (start c .args .x) * 2 / den (start c .args .x)
 unfolding ofBits
-floored c = c .floor .ensures ∙ mid-floor (c .before .before .before .args .x) (told (c .before .before .before .good .0 .1)) (c .before .if2 .taken) (c .before .before .if1 .left)
+floored c = c .floor .ensures ∙ mid-floor (start c .args .x) (told (start c .good .0 .1)) (c .before .if2 .taken) (c .before .before .if1 .left)
 
 add-result : tie.Need-add-result
 unfolding ofBits
-add-result c = omega (arith, floored c, mid-small (c .before .before .before .args .x) (c .before .if2 .taken) (c .before .before .if1 .left))
+add-result c = omega (arith, floored c, mid-small (start c .args .x) (c .before .if2 .taken) (c .before .before .if1 .left))
 
 cast-result : tie.Need-cast-result
 unfolding ofBits
-cast-result c = omega (arith, floored c, mid-small (c .before .before .before .args .x) (c .before .if2 .taken) (c .before .before .if1 .left))
+cast-result c = omega (arith, floored c, mid-small (start c .args .x) (c .before .if2 .taken) (c .before .before .if1 .left))
 
 returns-2 : tie.Need-returns-2
 unfolding ofBits
-returns-2 c = ap (λ (z : ℕ). (z + 1) / 2) (floored c) ∙ mid-byte (c .before .before .before .args .x) (c .before .if2 .taken) (c .before .before .if1 .left)
+returns-2 c = ap (λ (z : ℕ). (z + 1) / 2) (floored c) ∙ mid-byte (start c .args .x) (c .before .if2 .taken) (c .before .before .if1 .left)
 
 returns-3 : tie.Need-returns-3
 unfolding ofBits

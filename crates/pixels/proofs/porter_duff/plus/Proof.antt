@@ -4,7 +4,9 @@ use Rattle.pixels.proofs.porter_duff.plus.Statement.{statement}
 use Rattle.pixels.proofs.porter_duff.plus.Tie as tie
 
 returns : tie.Need-returns
-returns c = rw (c .smaller .ensures, c .before .before .before .plus-channel3 .ensures, c .before .before .before .before .plus-channel2 .ensures, c .before .before .before .before .before .plus-channel .ensures)
+returns c =
+    let blue = c .before .before .before in
+    rw (c .smaller .ensures, blue .plus-channel3 .ensures, blue .before .plus-channel2 .ensures, blue .before .before .plus-channel .ensures)
 
 pub plus-spec : {M : Type 1} → statement M
 plus-spec =

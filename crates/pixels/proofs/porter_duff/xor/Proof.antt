@@ -4,7 +4,9 @@ use Rattle.pixels.proofs.porter_duff.xor.Statement.{statement}
 use Rattle.pixels.proofs.porter_duff.xor.Tie as tie
 
 returns : tie.Need-returns
-returns c = rw (c .before .before .before .before .xor-channel3 .ensures, c .before .before .before .before .before .xor-channel2 .ensures, c .before .before .before .before .before .before .xor-channel .ensures)
+returns c =
+    let blue = c .before .before .before .before in
+    rw (blue .xor-channel3 .ensures, blue .before .xor-channel2 .ensures, blue .before .before .xor-channel .ensures)
 
 pub xor-spec : {M : Type 1} → statement M
 xor-spec =
