@@ -4,8 +4,8 @@
 //! starts), and then the same call gives other bits, and a job that such a worker takes up becomes a mixture. Trapped
 //! exceptions are not looked for: a trap ends the process as a kill does, and changes no sample.
 
+use crate::layer::{Inputs, ARGUMENTS, COLUMNS};
 use crate::raw;
-use crate::{Inputs, ARGUMENTS, COLUMNS};
 use std::error::Error;
 use std::fmt;
 

@@ -1,6 +1,6 @@
 //! Why a call is refused.
 
-use crate::Environment;
+use crate::environment::Environment;
 use std::fmt;
 
 /// The refusals by their numbers.

@@ -1,16 +1,10 @@
 //! The resumable job.
 
+use crate::environment::environment;
+use crate::fault::{Error, Fault, Refusal};
+use crate::layer::Inputs;
+use crate::memory::Memory;
 use crate::raw;
-use crate::{environment, Error, Fault, Inputs, Refusal};
-
-/// What a job's calls write: two work buffers of 4 × width × height words each, and the mark, a list of one number that
-/// begins at 0. The buffers may begin with any content.
-#[derive(Debug)]
-pub struct Memory<'a> {
-    pub work0: &'a mut [u32],
-    pub work1: &'a mut [u32],
-    pub mark: &'a mut [u64],
-}
 
 /// An accepted call: the stores it made, and whether the job is finished.
 #[derive(Clone, Copy, Debug, PartialEq, Eq)]

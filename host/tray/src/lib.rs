@@ -13,12 +13,14 @@ mod environment;
 mod fault;
 mod job;
 mod layer;
+mod memory;
 pub mod raw;
 
 pub use environment::{environment, Environment};
 pub use fault::{Error, Fault, Refusal};
-pub use job::{job, phase, total, Memory, Progress};
+pub use job::{job, phase, total, Progress};
 pub use layer::{Flags, Gravity, Inputs, Layer, Source, Stack, ARGUMENTS, COLUMNS, LAYERS, OPERATORS, SIDE};
+pub use memory::Memory;
 
 /// The number of the operator that `name` spells, as `from_name` of the Rust reads it: `-`, `_`, space and the
 /// difference of capitals do not count.

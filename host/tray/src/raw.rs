@@ -2,7 +2,8 @@
 //! unsafe code of the crate is here: each function hands the pointers and lengths of borrowed lists to the library, which
 //! reads and writes only these, and keeps none of them.
 
-use crate::{Inputs, Memory};
+use crate::layer::Inputs;
+use crate::memory::Memory;
 
 extern "C" {
     fn tray_from_name(name: *const u8, name_length: usize, operator: *mut u64) -> u64;
@@ -49,28 +50,34 @@ extern "C" {
     ) -> u64;
 }
 
+/// A call that begins with a job's inputs, a list as its pointer and its length; the count of layers stands after the
+/// destination in a call that has it, and the other parameters follow.
+macro_rules! with_inputs {
+    ($call:ident, $inputs:ident $(, $layers:ident)?; $($others:expr),+) => {
+        $call(
+            $inputs.width,
+            $inputs.height,
+            $inputs.channels,
+            $inputs.dst.as_ptr(),
+            $inputs.dst.len(),
+            $($inputs.$layers,)?
+            $inputs.table.as_ptr(),
+            $inputs.table.len(),
+            $inputs.args.as_ptr(),
+            $inputs.args.len(),
+            $inputs.samples.as_ptr(),
+            $inputs.samples.len(),
+            $($others),+
+        )
+    };
+}
+
 pub fn from_name(name: &[u8], operator: &mut u64) -> u64 {
     unsafe { tray_from_name(name.as_ptr(), name.len(), operator) }
 }
 
 pub fn compose(inputs: &Inputs, out: &mut [u32]) -> u64 {
-    unsafe {
-        tray_compose(
-            inputs.width,
-            inputs.height,
-            inputs.channels,
-            inputs.dst.as_ptr(),
-            inputs.dst.len(),
-            inputs.table.as_ptr(),
-            inputs.table.len(),
-            inputs.args.as_ptr(),
-            inputs.args.len(),
-            inputs.samples.as_ptr(),
-            inputs.samples.len(),
-            out.as_mut_ptr(),
-            out.len(),
-        )
-    }
+    unsafe { with_inputs!(tray_compose, inputs; out.as_mut_ptr(), out.len()) }
 }
 
 pub fn narrow(wanted: i64, input: &[u32], out: &mut [u32]) -> u64 {
@@ -90,30 +97,15 @@ pub fn job(
     stores: &mut u64,
     finished: &mut u64,
 ) -> u64 {
+    let Memory { work0, work1, mark } = memory;
     unsafe {
-        tray_job(
-            inputs.width,
-            inputs.height,
-            inputs.channels,
-            inputs.dst.as_ptr(),
-            inputs.dst.len(),
-            inputs.layers,
-            inputs.table.as_ptr(),
-            inputs.table.len(),
-            inputs.args.as_ptr(),
-            inputs.args.len(),
-            inputs.samples.as_ptr(),
-            inputs.samples.len(),
+        with_inputs!(
+            tray_job, inputs, layers;
             allowance,
-            memory.work0.as_mut_ptr(),
-            memory.work0.len(),
-            memory.work1.as_mut_ptr(),
-            memory.work1.len(),
-            memory.mark.as_mut_ptr(),
-            memory.mark.len(),
-            layer,
-            stores,
-            finished,
+            work0.as_mut_ptr(), work0.len(),
+            work1.as_mut_ptr(), work1.len(),
+            mark.as_mut_ptr(), mark.len(),
+            layer, stores, finished
         )
     }
 }
