@@ -4,7 +4,7 @@ use crate::folder::Folder;
 use anyhow::{ensure, Context, Result};
 use clap::Args;
 use std::path::PathBuf;
-use tray_cli::picture::{format, Format};
+use tray_cli::picture_file::{format, Format};
 use tray_cli::{pfm, png_file};
 
 #[derive(Args)]

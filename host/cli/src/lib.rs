@@ -2,4 +2,5 @@
 
 pub mod pfm;
 pub mod picture;
+pub mod picture_file;
 pub mod png_file;

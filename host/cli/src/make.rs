@@ -7,7 +7,8 @@ use clap::Args;
 use std::collections::HashMap;
 use std::path::{Path, PathBuf};
 use tray::{Inputs, Layer, Memory, Source, Stack};
-use tray_cli::picture::{self, Picture};
+use tray_cli::picture::Picture;
+use tray_cli::picture_file;
 
 #[derive(Args)]
 pub struct Make {
@@ -44,7 +45,7 @@ impl Make {
 
     fn destination(&self) -> Result<Picture> {
         match (&self.tray, &self.on) {
-            (Some(path), _) => picture::load(path),
+            (Some(path), _) => picture_file::load(path),
             (None, Some(path)) => {
                 let below = Folder::open(path)?;
                 let words = below.finished()?.list().to_vec();
@@ -90,7 +91,7 @@ impl Sources {
     }
 
     fn load(&mut self, path: &Path) -> Result<Source> {
-        let picture = picture::load(path)?;
+        let picture = picture_file::load(path)?;
         let source = Source {
             first: self.samples.len() as i64,
             width: picture.width as i64,
