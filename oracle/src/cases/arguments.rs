@@ -1,7 +1,8 @@
 //! Argument counts 0 to 4, with finite and other values, for the operators that read them and one that
 //! does not.
 
-use super::{Book, Row, arguments};
+use super::book::Book;
+use super::layer::{Row, arguments};
 use crate::request::Job;
 
 /// Mathematics, Blend, Dissolve, ChangeMask, Threshold, Displace, Distort, Modulate; Over reads none.

@@ -1,7 +1,8 @@
 //! Whole jobs: their calls with allowances, answers and marks, cut at every store, refused calls among them,
 //! and calls on memory that no job reaches.
 
-use super::{Book, Row};
+use super::book::Book;
+use super::layer::Row;
 use crate::random::{Random, carried};
 use crate::request::{Job, Memory};
 

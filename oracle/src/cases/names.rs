@@ -1,6 +1,6 @@
 //! The 83 names as they stand and in other spellings, and near misses.
 
-use super::Book;
+use super::book::Book;
 use crate::lines::Request;
 use crate::reference::{self, ALIASES};
 

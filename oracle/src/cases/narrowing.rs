@@ -1,6 +1,6 @@
 //! Narrowing to words and to bytes, and fault 11.
 
-use super::Book;
+use super::book::Book;
 use crate::lines::Request;
 use crate::random::{Random, SPECIAL};
 

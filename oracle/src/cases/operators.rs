@@ -1,7 +1,8 @@
 //! Every carried operator on the same pictures: special values against each other in colours and in alphas,
 //! bytes, values between 0 and 1 and around them.
 
-use super::{Book, Row};
+use super::book::Book;
+use super::layer::Row;
 use crate::random::{Random, carried};
 use crate::request::Job;
 

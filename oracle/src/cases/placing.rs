@@ -1,6 +1,7 @@
 //! Where a source lands: gravities, offsets, tiles, overlay, flags, channel counts, empty and narrow sides.
 
-use super::{Book, Row};
+use super::book::Book;
+use super::layer::Row;
 use crate::random::Random;
 use crate::request::Job;
 

@@ -1,6 +1,7 @@
 //! Each fault at its limit and just past it, in each place of the table, alone and with others.
 
-use super::{Book, Row};
+use super::book::Book;
+use super::layer::Row;
 use crate::lines::Request;
 use crate::request::{COLUMNS, Job, Memory};
 

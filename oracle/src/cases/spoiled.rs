@@ -1,7 +1,8 @@
 //! Lines that must not be taken: out of form, or with an answer that is not the library's. Without them a program that
 //! takes every line would pass. Each stands after '!', and alone: none has '=' for a list of another line.
 
-use super::{Book, pairs};
+use super::book::Book;
+use super::layer::pairs;
 use crate::compare::{agrees, expected};
 use crate::lines::{Case, Reader, Request, parts};
 use crate::model::Reference;

@@ -1,7 +1,8 @@
 //! A case for each place where a reading of the Rust goes wrong and other values would not show it. The line
 //! numbers are those of composite.rs, and of deep.rs after "deep:".
 
-use super::{Book, Row, pairs};
+use super::book::Book;
+use super::layer::{Row, arguments, pairs};
 use crate::random::carried;
 use crate::request::Job;
 
@@ -358,7 +359,7 @@ fn mapped(book: &mut Book, operator: i64, dst: &[f32], sources: &[[f32; 2]; 6], 
     let samples: Vec<f32> = sources.iter().flat_map(|[x, y]| [*x, *y, 0.3, 0.6]).collect();
     let mut row = Row::new(operator, (3, 2, 4));
     row.count = args.len() as i64;
-    let args = super::arguments(&words(args));
+    let args = arguments(&words(args));
     let table = row.numbers().to_vec();
     let job =
         Job { width: 3, height: 2, channels: 4, dst: words(dst), layers: 1, table, args, samples: words(&samples) };
