@@ -1,32 +1,18 @@
-//! The mathematical operators: B(s, d), and the four ways in which it meets the alphas.
+//! The mathematical operators: B(s, d), and what becomes of it in each convention.
 
+use super::convention::Convention;
 use super::operator::Op;
-use super::steps::{Abs, Clamp, Rem};
+use super::sites::{Abs, Clamp, Rem};
 use super::wrong::{Reading, Wrong};
 
-#[derive(Clone, Copy, PartialEq, Eq, Debug)]
-pub enum Convention {
-    Premult,
-    Divided,
-    OnPremult,
-    PremultOnly,
-}
-
 impl Reading {
-    pub fn convention(self, op: Op) -> Convention {
+    fn convention(self, op: Op) -> Convention {
         if let Some(Wrong::Convention(other, wrong)) = self.wrong
             && other == op
         {
             return wrong;
         }
-        match op {
-            Op::Multiply | Op::Screen | Op::Lighten | Op::Difference | Op::LinearBurn | Op::Stamp => {
-                Convention::Premult
-            }
-            Op::Darken | Op::DivideDst | Op::DivideSrc => Convention::OnPremult,
-            Op::ModulusAdd | Op::ModulusSubtract | Op::Negate | Op::Exclusion => Convention::PremultOnly,
-            _ => Convention::Divided,
-        }
+        Convention::of(op)
     }
 
     /// The union alpha.

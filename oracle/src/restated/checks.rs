@@ -1,6 +1,7 @@
 //! Document 01's table of faults: the bounds, and the order in which they are looked at.
 
-use super::wrong::{Bound, Reading, Wrong};
+use super::sites::Bound;
+use super::wrong::{Reading, Wrong};
 use crate::request::{ARGUMENTS, COLUMNS, Job, Memory};
 
 impl Reading {

@@ -1,6 +1,6 @@
 //! The two conversions between red, green, blue and hue, saturation, lightness.
 
-use super::steps::Rem;
+use super::sites::Rem;
 use super::wrong::{Reading, Wrong};
 
 #[derive(Clone, Copy)]

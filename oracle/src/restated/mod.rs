@@ -4,63 +4,23 @@
 
 mod blend;
 mod checks;
+mod convention;
 mod hsl;
 mod job;
+mod layer;
+mod names;
+mod narrow;
 mod operator;
 mod pixel;
 mod place;
+mod sites;
 mod steps;
 pub mod wrong;
 
 pub use wrong::{Reading, Wrong};
 
-use crate::request::{ARGUMENTS, Answer, COLUMNS, Job, Memory, NAN, Side, floats};
-use operator::Op;
-use place::{Beneath, Row};
-
-impl Reading {
-    fn layer<'a>(self, job: &'a Job, k: usize) -> Row<'a> {
-        let row = &job.table[k * COLUMNS..][..COLUMNS];
-        let start = if self.is(Wrong::SourceFromZero) { 0 } else { row[5] as usize };
-        let count = if self.is(Wrong::ArgumentsPastCount) { ARGUMENTS } else { row[9] as usize };
-        let first = if self.is(Wrong::ArgumentsOfFirstLayer) { 0 } else { k * ARGUMENTS };
-        Row {
-            op: Op::ALL[row[0] as usize],
-            gravity: row[1],
-            right: row[2],
-            down: row[3],
-            flags: row[4],
-            width: row[6],
-            height: row[7],
-            channels: row[8],
-            source: &job.samples[start.min(job.samples.len())..],
-            args: floats(&job.args[first..first + count]),
-        }
-    }
-
-    /// The destination, widened.
-    fn widened_dst(self, job: &Job) -> Vec<u32> {
-        (0..job.width * job.height).flat_map(|i| self.widened(job.channels, &job.dst, i)).collect()
-    }
-
-    fn narrowed(self, wanted: i64, input: &[u32]) -> Vec<u32> {
-        let mut out = Vec::new();
-        for pixel in input.chunks(4) {
-            match wanted {
-                1 => {
-                    let luma = self.luma([0, 1, 2].map(|c| f32::from_bits(pixel[c])));
-                    let kept = self.is(Wrong::NarrowKeepsNan);
-                    out.push(if luma.is_nan() && !kept { NAN } else { luma.to_bits() });
-                }
-                _ => out.extend_from_slice(&pixel[..wanted as usize]),
-            }
-        }
-        if self.is(Wrong::NarrowStoresNan) {
-            out = out.into_iter().map(|w| if f32::from_bits(w).is_nan() { NAN } else { w }).collect();
-        }
-        out
-    }
-}
+use crate::request::{Answer, Job, Memory, Side};
+use place::Beneath;
 
 /// This module as a side of a comparison.
 pub struct Restated {

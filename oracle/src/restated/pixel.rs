@@ -2,8 +2,8 @@
 
 use super::hsl::Hsl;
 use super::operator::Op;
-use super::steps::{Abs, Clamp};
-use super::wrong::{Default, Reading, Wrong};
+use super::sites::{Abs, Clamp, Default};
+use super::wrong::{Reading, Wrong};
 
 pub type Pixel = [f32; 4];
 

@@ -2,8 +2,8 @@
 
 use super::operator::Op;
 use super::pixel::Pixel;
-use super::steps::Clamp;
-use super::wrong::{Default, Reading, Wrong};
+use super::sites::{Clamp, Default};
+use super::wrong::{Reading, Wrong};
 use crate::request::NAN;
 
 /// A layer, read from its row of the table.

@@ -1,35 +1,8 @@
 //! Document 01's float steps, from its words alone: smaller, larger, clamp, `rem_euclid`, the square root by
 //! whole-number squares, the absolute value on bits, floor and the byte step on the exact value.
 
+use super::sites::{Abs, Clamp, Rem};
 use super::wrong::{Reading, Wrong};
-
-/// Where a clamp to 0..1, or a coordinate's, stands.
-#[derive(Clone, Copy, PartialEq, Eq, Debug)]
-pub enum Clamp {
-    Blend,
-    Result,
-    Lightness,
-    Saturation,
-    Coordinate,
-    Byte,
-}
-
-/// Where a `rem_euclid` stands.
-#[derive(Clone, Copy, PartialEq, Eq, Debug)]
-pub enum Rem {
-    Wrap,
-    Hue,
-    Sector,
-}
-
-/// Where an absolute value stands.
-#[derive(Clone, Copy, PartialEq, Eq, Debug)]
-pub enum Abs {
-    Difference,
-    Negate,
-    ChangeMask,
-    Threshold,
-}
 
 impl Reading {
     pub fn smaller(self, a: f32, b: f32) -> f32 {

@@ -1,9 +1,9 @@
 //! The misreadings: every place where document 01 or the Rust can be read wrongly, one switch each, with what
-//! the wrong reader takes it for. `EQUIVALENT` names those that change no answer, with the reason.
+//! the wrong reader takes it for. `equivalent` names those that change no answer, with the reason.
 
-use super::blend::Convention;
+use super::convention::Convention;
 use super::operator::Op;
-use super::steps::{Abs, Clamp, Rem};
+use super::sites::{Abs, Bound, Clamp, Default, Rem};
 
 /// How document 01 is read: as it says, or with one misreading.
 #[derive(Clone, Copy, Debug)]
@@ -18,95 +18,6 @@ impl Reading {
         self.wrong == Some(wrong)
     }
 }
-
-/// The arguments that have a default.
-#[derive(Clone, Copy, PartialEq, Eq, Debug)]
-pub enum Default {
-    BlendSource,
-    BlendDst,
-    DissolveSource,
-    DissolveDst,
-    Fuzz,
-    Threshold,
-    Amount,
-    Brightness,
-    Saturation,
-    MapAcross,
-    MapDown,
-}
-
-/// The bounds of the table of faults.
-#[derive(Clone, Copy, PartialEq, Eq, Debug)]
-pub enum Bound {
-    LayersLow,
-    LayersHigh,
-    WidthLow,
-    WidthHigh,
-    HeightLow,
-    HeightHigh,
-    OperatorLow,
-    OperatorHigh,
-    GravityLow,
-    GravityHigh,
-    RightLow,
-    RightHigh,
-    DownLow,
-    DownHigh,
-    FlagsLow,
-    FlagsHigh,
-    SourceWidthLow,
-    SourceWidthHigh,
-    SourceHeightLow,
-    SourceHeightHigh,
-    CountLow,
-    CountHigh,
-}
-
-const BOUNDS: [Bound; 22] = [
-    Bound::LayersLow,
-    Bound::LayersHigh,
-    Bound::WidthLow,
-    Bound::WidthHigh,
-    Bound::HeightLow,
-    Bound::HeightHigh,
-    Bound::OperatorLow,
-    Bound::OperatorHigh,
-    Bound::GravityLow,
-    Bound::GravityHigh,
-    Bound::RightLow,
-    Bound::RightHigh,
-    Bound::DownLow,
-    Bound::DownHigh,
-    Bound::FlagsLow,
-    Bound::FlagsHigh,
-    Bound::SourceWidthLow,
-    Bound::SourceWidthHigh,
-    Bound::SourceHeightLow,
-    Bound::SourceHeightHigh,
-    Bound::CountLow,
-    Bound::CountHigh,
-];
-
-const DEFAULTS: [Default; 11] = [
-    Default::BlendSource,
-    Default::BlendDst,
-    Default::DissolveSource,
-    Default::DissolveDst,
-    Default::Fuzz,
-    Default::Threshold,
-    Default::Amount,
-    Default::Brightness,
-    Default::Saturation,
-    Default::MapAcross,
-    Default::MapDown,
-];
-
-const CLAMPS: [Clamp; 6] =
-    [Clamp::Blend, Clamp::Result, Clamp::Lightness, Clamp::Saturation, Clamp::Coordinate, Clamp::Byte];
-const REMS: [Rem; 3] = [Rem::Wrap, Rem::Hue, Rem::Sector];
-const ABSES: [Abs; 4] = [Abs::Difference, Abs::Negate, Abs::ChangeMask, Abs::Threshold];
-const CONVENTIONS: [Convention; 4] =
-    [Convention::Premult, Convention::Divided, Convention::OnPremult, Convention::PremultOnly];
 
 macro_rules! misreadings {
     ($($group:literal: $($name:ident $text:literal)+;)+) => {
@@ -451,24 +362,24 @@ misreadings! {
 pub fn all() -> Vec<(Wrong, &'static str, String)> {
     let mut all: Vec<_> = SINGLE.iter().map(|(wrong, group, text)| (*wrong, *group, text.to_string())).collect();
     let mut add = |wrong: Wrong, group, text: &str| all.push((wrong, group, text.to_string()));
-    for place in CLAMPS {
+    for &place in Clamp::ALL {
         add(Wrong::ClampNan(place), "clamp", "this clamp turns a NaN into 0");
         add(Wrong::ClampZero(place), "clamp", "this clamp turns -0 into 0");
     }
-    for place in REMS {
+    for &place in Rem::ALL {
         add(Wrong::RemZero(place), "rem_euclid", "-0 becomes 0 here");
         add(Wrong::RemInfinity(place), "rem_euclid", "an infinity gives 0 here");
         add(Wrong::RemBelow(place), "rem_euclid", "the result stays below m here");
         add(Wrong::RemByFloor(place), "rem_euclid", "v - m * floor(v / m) here");
     }
-    for place in ABSES {
+    for &place in Abs::ALL {
         add(Wrong::AbsByTest(place), "absolute value", "-v where v < 0, so -0 stays");
     }
-    for which in DEFAULTS {
+    for &which in Default::ALL {
         add(Wrong::Default(which), "arguments", "another default (1 more)");
     }
     for op in Op::ALL.iter().filter(|op| op.is_mathematical() && **op != Op::Interpolate) {
-        for convention in CONVENTIONS.iter().filter(|c| **c != Reading::RIGHT.convention(*op)) {
+        for convention in Convention::ALL.iter().filter(|c| **c != Convention::of(*op)) {
             add(Wrong::Convention(*op, *convention), "conventions", "the operator in this convention");
         }
     }
@@ -480,7 +391,7 @@ pub fn all() -> Vec<(Wrong, &'static str, String)> {
     for alias in 0..13 {
         add(Wrong::AliasUnknown(alias), "names", "this alias is unknown");
     }
-    for bound in BOUNDS {
+    for &bound in Bound::ALL {
         add(Wrong::Strict(bound), "refusals", "this bound one too strict");
         add(Wrong::Loose(bound), "refusals", "this bound one too loose");
     }
