@@ -1,7 +1,6 @@
 //! What the four Rust files name and the repository of the port does not have: as much as the compiler asks
 //! for. No composition, narrowing or name runs any of it.
 
-use crate::deep::FloatImage;
 use oxideav_core::{Error, PixelFormat, VideoFrame};
 
 type Framed = Result<VideoFrame, Error>;
@@ -53,7 +52,8 @@ pub mod layout {
 
 pub mod measure {
     use super::*;
-    pub fn float_image_of(_: &VideoFrame, _: VideoStreamParams) -> Result<FloatImage, Error> {
+    /// `FloatImage` is deep.rs's, which stands above this: the caller says that it wants one.
+    pub fn float_image_of<FloatImage>(_: &VideoFrame, _: VideoStreamParams) -> Result<FloatImage, Error> {
         unimplemented!()
     }
 }
