@@ -1,5 +1,6 @@
-/* The library against the two public documents' formulas with exactly the listed steps exchanged (crates/standards/specs, FractionSteps.antt and BlendSteps.antt).
- * The formulas stand here once more, as C floats, under the specs' names; which steps an operator has is read from the specs (tests/standards/lists).
+/* The library against the two public documents' formulas with exactly the listed steps exchanged (crates/standards/specs, FractionSteps.antt and
+ * BlendSteps.antt). The formulas stand here once more, as C floats, under the specs' names; which steps an operator has is read from the specs
+ * (tests/standards/lists).
  *
  *    steps COUNT SEED          COUNT pixels for each operator, and what each listed step changes in them; 1 at a mismatch, or at a step that changes nothing
  *    steps shares COUNT SEED   how many pixels of samples i/255 are the documents' own, for each operator and three kinds of pixels */
