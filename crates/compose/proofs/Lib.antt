@@ -1,3 +1,4 @@
+pub mod Maps
 mod Outcomes
 pub mod Parts
 pub mod Pixels

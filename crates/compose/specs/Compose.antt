@@ -7,9 +7,12 @@ use Prim.Native.Nat.{ℕ, _*_, _/_, _%_}
 use lib.IntN.{pos}
 use lib.ListN.{take, drop}
 use lib.Ieee.{Float, binary32, ofInt}
+use Rattle.float_steps.specs.Axis.{axisOf}
 use Rattle.float_steps.specs.Notation.{_⊕_, _⊖_, _⊗_, half}
 use Rattle.float_steps.specs.Words.{wordOf}
+use Rattle.float_steps.specs.declared.axis.Axis.{Axis}
 use Rattle.operators.specs.Operators.{sameOp}
+use Rattle.operators.specs.declared.CompositeOp.{CompositeOp}
 use Rattle.operators.specs.declared.CompositeOp.the-variants as O
 use Rattle.places.specs.Placement.{placementOf}
 use Rattle.places.specs.Indices.{sourceIndex}
@@ -21,7 +24,7 @@ use Rattle.layers.specs.declared.Layer.{Layer}
 use Rattle.layers.specs.declared.Source.{Source}
 use Rattle.pictures.specs.Widen.{wordsOf, rgbaAt, valuesOf}
 use Rattle.pictures.specs.FlatWords.{flat}
-use Rattle.pictures.specs.Bilinear.{bilinearOf}
+use Rattle.pictures.specs.Bilinear.{neighboursOf, mixOf}
 use Rattle.pictures.specs.declared.Rgba.{Rgba}
 use Rattle.pictures.specs.declared.Words.{Words}
 use Rattle.pixels.specs.Pixel.{pixelOf, clear}
@@ -37,7 +40,7 @@ sourceOf samples source = take (source .width * source .height * source .channel
 abbrev pub cornerOf : Layer → (dw dh : ℕ) → Corner
 cornerOf l dw dh = placementOf (l .gravity) dw dh (l .source .width) (l .source .height) (l .right) (l .down)
 
--- ---- one pixel of a `row` (composite.rs 608 to 644)
+-- ---- one pixel of a `row` (composite.rs 608 to 644): where it reads
 
 -- `sx` (composite.rs 610) and `sy`: the source's pixel on pixel j, if there is one
 abbrev pub indexOn : Layer → (dw dh j : ℕ) → Index
@@ -58,6 +61,11 @@ unfoldable pub sourcePixel : List ℕ → (channels : ℕ) → Index → Rgba
 sourcePixel source channels (At n) = valuesOf (rgbaAt source channels n)
 sourcePixel source channels Off = clear
 
+-- Whether the operator is a map, which reads the picture beneath through the source. The Rust's `is_map` comprises Blur
+-- besides: a layer with Blur is refused (fault 4) and never gets here.
+abbrev pub readsThrough : CompositeOp → Bool
+readsThrough op = sameOp op O.Displace || sameOp op O.Distort
+
 -- a whole number as an f32
 abbrev pub floatOf : ℕ → Float
 floatOf n = ofInt binary32 (pos n)
@@ -69,15 +77,35 @@ displaced at v by = floatOf at ⊕ (v ⊖ half) ⊗ by
 abbrev pub distorted : (v by : Float) → Float
 distorted v by = v ⊗ by
 
--- `r` (composite.rs 627 to 631) with the arms of `sample` (composite.rs 1154), of the source's pixel s and the destination's own pixel d; a map reads
--- the whole picture beneath.
--- The Rust's `is_map` comprises Blur besides: a layer with Blur is refused (fault 4) and never gets here.
+unfoldable pub mapCoordinate : (displace : Bool) → (at : ℕ) → (v by : Float) → Float
+mapCoordinate displace at v by = cond displace (displaced at v by) (distorted v by)
+
+-- where that falls along a side of the picture beneath
+abbrev pub mapAxis : (displace : Bool) → (at : ℕ) → (v by : Float) → (side : ℕ) → Axis
+mapAxis displace at v by side = axisOf (mapCoordinate displace at v by) side
+
+-- where a map reads the picture beneath for pixel j, on which the source's pixel s lies: the columns by its red, the rows by its green
+abbrev pub mapColumn : Layer → (dw : ℕ) → (s : Rgba) → (j : ℕ) → Axis
+mapColumn l dw s j = mapAxis (sameOp (l .op) O.Displace) (j % dw) (s .r) (paramsOf (l .op) (l .args) .a) dw
+
+abbrev pub mapRow : Layer → (dw dh : ℕ) → (s : Rgba) → (j : ℕ) → Axis
+mapRow l dw dh s j = mapAxis (sameOp (l .op) O.Displace) (j / dw) (s .g) (paramsOf (l .op) (l .args) .b) dh
+
+-- ---- its result
+
+-- without a map, from the source's pixel s and its own pixel d beneath
+abbrev pub painted : Layer → (s d : Rgba) → Rgba
+painted l s d = pixelOf (l .op) (paramsOf (l .op) (l .args)) s d
+
+-- `r` (composite.rs 627 to 631) with the arms of `sample` (composite.rs 1154): a map mixes the four neighbours of the place where it reads the picture
+-- beneath. That this is `bilinear_into` at `px` and `py` is a law (proofs/Maps).
 unfoldable pub resultOf : Layer → (dw dh : ℕ) → (ℕ → Rgba) → (s d : Rgba) → (j : ℕ) → Rgba
 resultOf l dw dh beneath s d j =
-    let p = paramsOf (l .op) (l .args) in
-    cond (sameOp (l .op) O.Displace) (bilinearOf beneath dw dh (displaced (j % dw) (s .r) (p .a)) (displaced (j / dw) (s .g) (p .b)))
-    (cond (sameOp (l .op) O.Distort) (bilinearOf beneath dw dh (distorted (s .r) (p .a)) (distorted (s .g) (p .b)))
-    (pixelOf (l .op) p s d))
+    let x = mapColumn l dw s j in
+    let y = mapRow l dw dh s j in
+    cond (readsThrough (l .op)) (mixOf (neighboursOf beneath dw x y) (x .along) (y .along)) (painted l s d)
+
+-- ---- what is written of it
 
 -- a channel, as `red` (composite.rs 632 to 634): written where its flag is on, a NaN as 7FC00000; else kept with all its bits
 abbrev pub writtenWord : Bool → Float → ℕ → ℕ

@@ -2,26 +2,21 @@
 -- is part of the contract of `plan` (`Planned`, Ready). Definitions only.
 use mathlib.Core.Bool.{Bool, cond, _||_}
 use mathlib.Core.List.{List}
-use Prim.Native.Nat.{ℕ, _/_, _%_}
-use lib.Ieee.{Float}
+use Prim.Native.Nat.{ℕ, _+_, _/_, _%_}
+use Rattle.float_steps.specs.declared.axis.Axis.{Axis}
 use Rattle.operators.specs.Operators.{sameOp}
-use Rattle.operators.specs.declared.CompositeOp.{CompositeOp}
 use Rattle.operators.specs.declared.CompositeOp.the-variants as O
 use Rattle.places.specs.Indices.{sourceIndex}
 use Rattle.places.specs.declared.Index.{Index}
 use Rattle.layers.specs.declared.Layer.{Layer}
 use Rattle.pictures.specs.Widen.{valuesOf}
-use Rattle.pictures.specs.Bilinear.{bilinearOf}
+use Rattle.pictures.specs.Bilinear.{neighboursOf, mixOf}
 use Rattle.pictures.specs.declared.Rgba.{Rgba}
 use Rattle.pictures.specs.declared.Words.{Words}
 use Rattle.pixels.specs.Pixel.{pixelOf}
 use Rattle.compose.specs.Arguments.{paramsOf}
-use Rattle.compose.specs.Compose.{cornerOf, inside, sourcePixel, displaced, distorted, writtenOf}
+use Rattle.compose.specs.Compose.{cornerOf, inside, sourcePixel, readsThrough, mapAxis, writtenOf}
 use Rattle.compose.specs.declared.Plan.{Plan}
-
--- the two maps that are carried
-abbrev pub readsThrough : CompositeOp → Bool
-readsThrough op = sameOp op O.Displace || sameOp op O.Distort
 
 -- a layer on a destination of dw by dh pixels
 unfoldable pub planOf : Layer → (dw dh : ℕ) → Plan
@@ -41,28 +36,44 @@ planOf l dw dh = record {
   dh = dh;
 }
 
--- ---- one pixel by the plan, as Compose has it by the layer
+-- ---- the pixel in column x and row y by the plan, as Compose has it by the layer
 
-abbrev pub indexBy : Plan → (j : ℕ) → Index
-indexBy p j = sourceIndex (p .tile) (p .width) (p .height) (p .corner) (j % p .dw) (j / p .dw)
+abbrev pub indexBy : Plan → (x y : ℕ) → Index
+indexBy p x y = sourceIndex (p .tile) (p .width) (p .height) (p .corner) x y
 
-abbrev pub writesBy : Plan → Index → Bool
-writesBy p index = inside index || p .overlay
+abbrev pub writesBy : Plan → (x y : ℕ) → Bool
+writesBy p x y = inside (indexBy p x y) || p .overlay
 
--- where a map reads the destination, in one coordinate
-unfoldable pub mapCoordinate : (displace : Bool) → (at : ℕ) → (v by : Float) → Float
-mapCoordinate displace at v by = cond displace (displaced at v by) (distorted v by)
+abbrev pub mapColumnBy : Plan → (s : Rgba) → (x : ℕ) → Axis
+mapColumnBy p s x = mapAxis (p .displace) x (s .r) (p .params .a) (p .dw)
 
-abbrev pub mapped : Plan → (ℕ → Rgba) → Rgba → (j : ℕ) → Rgba
-mapped p beneath s j =
-    bilinearOf beneath (p .dw) (p .dh)
-    (mapCoordinate (p .displace) (j % p .dw) (s .r) (p .params .a))
-    (mapCoordinate (p .displace) (j / p .dw) (s .g) (p .params .b))
+abbrev pub mapRowBy : Plan → (s : Rgba) → (y : ℕ) → Axis
+mapRowBy p s y = mapAxis (p .displace) y (s .g) (p .params .b) (p .dh)
 
-unfoldable pub resultBy : Plan → (ℕ → Rgba) → (s d : Rgba) → (j : ℕ) → Rgba
-resultBy p beneath s d j = cond (p .map) (mapped p beneath s j) (pixelOf (p .op) (p .params) s d)
+abbrev pub paintedBy : Plan → (s d : Rgba) → Rgba
+paintedBy p s d = pixelOf (p .op) (p .params) s d
+
+abbrev pub mappedBy : Plan → (ℕ → Rgba) → (s : Rgba) → (x y : ℕ) → Rgba
+mappedBy p beneath s x y =
+    let column = mapColumnBy p s x in
+    let row = mapRowBy p s y in
+    mixOf (neighboursOf beneath (p .dw) column row) (column .along) (row .along)
+
+unfoldable pub resultBy : Plan → (ℕ → Rgba) → (s d : Rgba) → (x y : ℕ) → Rgba
+resultBy p beneath s d x y = cond (p .map) (mappedBy p beneath s x y) (paintedBy p s d)
 
 -- from its own words beneath and, for a map, the values of the whole picture beneath
-unfoldable pub composedBy : Plan → (source : List ℕ) → (ℕ → Rgba) → (own : Words) → (j : ℕ) → Words
-composedBy p source beneath own j =
-    cond (writesBy p (indexBy p j)) (writtenOf (p .mask) (resultBy p beneath (sourcePixel source (p .channels) (indexBy p j)) (valuesOf own) j) own) own
+unfoldable pub composedBy : Plan → (source : List ℕ) → (ℕ → Rgba) → (own : Words) → (x y : ℕ) → Words
+composedBy p source beneath own x y =
+    let s = sourcePixel source (p .channels) (indexBy p x y) in
+    cond (writesBy p x y) (writtenOf (p .mask) (resultBy p beneath s (valuesOf own) x y) own) own
+
+-- ---- pixels by their numbers, row by row
+
+-- pixel i of a run that begins at pixel `from`; its own words beneath are `own i`
+abbrev pub pixelsFrom : Plan → (source : List ℕ) → (ℕ → Rgba) → (own : ℕ → Words) → (from i : ℕ) → Words
+pixelsFrom p source beneath own from i = composedBy p source beneath (own i) ((from + i) % p .dw) ((from + i) / p .dw)
+
+-- pixel j on the picture beneath, whose pixel i is `beneath i`
+abbrev pub pixelOn : Plan → (source : List ℕ) → (ℕ → Words) → (j : ℕ) → Words
+pixelOn p source beneath j = composedBy p source (λ i. valuesOf (beneath i)) (beneath j) (j % p .dw) (j / p .dw)

@@ -1,7 +1,8 @@
 // Composition: one layer on one picture, as `compose_float` of composite.rs has it. The contracts cite specs/Compose, Arguments and Single, and, of what
 // the code works out once a layer, specs/Plans and Ready.
 pub mod arguments; // arguments.rt: an operator's arguments with their defaults
-pub mod cell; // cell.rt: one pixel of the result
+pub mod pixel; // pixel.rt: one pixel of the result
+pub mod plans; // plans.rt: a layer's plan
 pub mod run; // run.rt: runs of pixels
 pub mod single; // single.rt: the single composition
 pub mod source; // source.rt: a layer's part of the source samples

@@ -6,14 +6,15 @@ ghost use lib.ListN.{length};
 ghost use Rattle.lent.specs.Lent.{before, after};
 ghost use Rattle.layers.specs.GoodLayers.{GoodLayer, Picture};
 ghost use Rattle.layers.specs.Inputs.{inputs};
-ghost use Rattle.pictures.specs.Widen.{rgbaAt, valuesOf};
+ghost use Rattle.pictures.specs.Widen.{rgbaAt};
 ghost use Rattle.pictures.specs.FlatWords.{flat, filled};
 ghost use Rattle.compose.specs.Compose.{composedOf};
-ghost use Rattle.compose.specs.Plans.{composedBy};
-ghost use Rattle.compose.specs.Ready.{Ready, Run};
+ghost use Rattle.compose.specs.Plans.{pixelOn};
+ghost use Rattle.compose.specs.Ready.{Ready, Span};
 ghost use Rattle.compose.specs.Single.{composed, composeOf};
 use crate::Plan;
-use crate::cell::plan;
+use crate::plans::plan;
+use crate::run::SPAN;
 use crate::run::min;
 use crate::run::run;
 use crate::source::source_of;
@@ -23,11 +24,8 @@ use layers::cells::natural;
 use layers::check;
 use pictures::flat::widen;
 
-// The pixels that are widened at a time.
-const CHUNK: usize = 64;
-
 // Pixels from .. from + count, at the front of out: their own pixels are widened into a buffer first.
-fn chunk(
+fn widened_span(
     p: Plan,
     source: &[u32],
     dst: &[u32],
@@ -36,24 +34,36 @@ fn chunk(
     count: usize,
     out: &mut [u32],
 )
-    requires { ⌜ (Ready p (length (now source))) × (Run p (length (now dst)) channels from count) × (count ≤ 64) × (4 * count ≤ length (now out)) ⌝ }
-    ensures { λ _. ⌜ after out ≡ filled (λ i. composedBy p (before source) (λ k. valuesOf (rgbaAt (before dst) channels k)) (rgbaAt (before dst) channels (from + i)) (from + i)) count (before out) ⌝ }
+    requires { ⌜
+        (Ready p (length (now source)))
+        × (Span p (length (now dst)) channels from count)
+        × (count ≤ 128)
+        × (4 * count ≤ length (now out))
+        ⌝ }
+    ensures { λ _. ⌜
+        after out
+        ≡ filled (λ i. pixelOn p (before source) (rgbaAt (before dst) channels) (from + i)) count (before out)
+        ⌝ }
 {
-    let mut own = [0u32; 256];
+    let mut own = [0u32; 4 * SPAN];
     widen(dst, channels, from, count, &mut own);
     run(p, source, dst, channels, &own, from, count, out);
 }
 
-// The whole picture, chunk by chunk.
-fn chunks(p: Plan, source: &[u32], dst: &[u32], channels: usize, total: usize, out: &mut [u32])
-    requires { ⌜ (Ready p (length (now source))) × (Run p (length (now dst)) channels 0 total) × (length (now out) ≡ 4 * total) ⌝ }
-    ensures { λ _. ⌜ after out ≡ flat (λ j. composedBy p (before source) (λ k. valuesOf (rgbaAt (before dst) channels k)) (rgbaAt (before dst) channels j) j) 0 total ⌝ }
+// The whole picture, span by span.
+fn spans(p: Plan, source: &[u32], dst: &[u32], channels: usize, total: usize, out: &mut [u32])
+    requires { ⌜
+        (Ready p (length (now source)))
+        × (Span p (length (now dst)) channels 0 total)
+        × (length (now out) ≡ 4 * total)
+        ⌝ }
+    ensures { λ _. ⌜ after out ≡ flat (pixelOn p (before source) (rgbaAt (before dst) channels)) 0 total ⌝ }
 {
     let mut j = 0;
     while j < total {
-        let count = min(CHUNK, total - j);
+        let count = min(SPAN, total - j);
         let at = 4 * j;
-        chunk(p, source, dst, channels, j, count, &mut out[at..]);
+        widened_span(p, source, dst, channels, j, count, &mut out[at..]);
         j += count;
     }
 }
@@ -68,12 +78,16 @@ fn whole(
     samples: &[u32],
     out: &mut [u32],
 )
-    requires { ⌜ (GoodLayer (length (now samples)) l) × (Picture dw dh channels (length (now dst))) × (length (now out) ≡ 4 * (dw * dh)) ⌝ }
+    requires { ⌜
+        (GoodLayer (length (now samples)) l)
+        × (Picture dw dh channels (length (now dst)))
+        × (length (now out) ≡ 4 * (dw * dh))
+        ⌝ }
     ensures { λ _. ⌜ after out ≡ composedOf (before samples) l dw dh channels (before dst) ⌝ }
 {
     let p = plan(l, dw, dh);
     let source = source_of(samples, l);
-    chunks(p, source, dst, channels, dw * dh, out);
+    spans(p, source, dst, channels, dw * dh, out);
 }
 
 // One layer on one destination: 0 and the whole picture in out, or the number of the first fault and out as it was.
@@ -87,7 +101,9 @@ pub fn compose(
     samples: &[u32],
     out: &mut [u32],
 ) -> u64
-    ensures { λ r. ⌜ composed r (after out) ≡ composeOf (inputs width height channels dst (pos 1) table args samples) (before out) ⌝ }
+    ensures { λ r. ⌜
+        composed r (after out) ≡ composeOf (inputs width height channels dst (pos 1) table args samples) (before out)
+        ⌝ }
 {
     let v = check(width, height, channels, dst, 1, table, args, samples);
     let number = v.number;

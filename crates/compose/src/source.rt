@@ -9,7 +9,10 @@ use layers::Layer;
 
 pub fn source_of(samples: &[u32], l: Layer) -> &[u32]
     requires { ⌜ GoodLayer (length (now samples)) l ⌝ }
-    ensures { λ r. ⌜ (now r ≡ sourceOf (before samples) (l .source)) × (length (now r) ≡ l .source .width * l .source .height * l .source .channels) ⌝ }
+    ensures { λ r. ⌜
+        (now r ≡ sourceOf (before samples) (l .source))
+        × (length (now r) ≡ l .source .width * l .source .height * l .source .channels)
+        ⌝ }
 {
     let source = l.source;
     let first = source.first;

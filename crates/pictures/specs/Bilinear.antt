@@ -8,7 +8,12 @@ use lib.Ieee.{Float, nan}
 use Rattle.float_steps.specs.Notation.{_⊕_, _⊖_, _⊗_, f1}
 use Rattle.float_steps.specs.Axis.{axisOf}
 use Rattle.float_steps.specs.declared.axis.Axis.{Axis}
+use Rattle.pictures.specs.Widen.{rgbaAt, valuesOf}
 use Rattle.pictures.specs.declared.Rgba.{Rgba}
+
+-- the values of a picture's pixel j
+abbrev pub valuesAt : List ℕ → (channels : ℕ) → (j : ℕ) → Rgba
+valuesAt picture channels j = valuesOf (rgbaAt picture channels j)
 
 abbrev pub channelsOf : Rgba → List Float
 channelsOf p = p .r ∷ p .g ∷ p .b ∷ p .a ∷ []

@@ -1,20 +1,18 @@
-// `bilinear_into` in its three parts: where (the two axes), the four neighbours, and their mixture.
+// Two of the three parts of `bilinear_into`: the four neighbours, and their mixture. Where, which the two axes say, is `locate` of the crate float_steps.
 ghost use mathlib.Core.Path.{_≡_};
 ghost use Prim.Native.Nat.{_+_, _*_, _≤_, _<_};
 ghost use lib.ListN.{length};
 ghost use Rattle.lent.specs.Lent.{before};
-ghost use Rattle.pictures.specs.Widen.{rgbaAt, valuesOf};
-ghost use Rattle.pictures.specs.Bilinear.{channelsOf, neighboursOf, mixedOf, mixOf, bilinearOf, InPicture};
+ghost use Rattle.pictures.specs.Bilinear.{valuesAt, channelsOf, neighboursOf, mixedOf, mixOf, InPicture};
 use crate::Rgba;
 use crate::widen::rgba_at;
 use crate::widen::values;
 use float_steps::axis::Axis;
-use float_steps::axis::locate;
 
 // The four values of the pixel in column x of row y.
 fn channels_at(picture: &[u32], channels: usize, w: usize, h: usize, x: usize, y: usize) -> [f32; 4]
     requires { ⌜ (1 ≤ channels) × (channels ≤ 4) × (x < w) × (y < h) × (length (now picture) ≡ w * h * channels) ⌝ }
-    ensures { λ r. ⌜ r ≡ channelsOf (valuesOf (rgbaAt (before picture) channels (y * w + x))) ⌝ }
+    ensures { λ r. ⌜ r ≡ channelsOf (valuesAt (before picture) channels (y * w + x)) ⌝ }
 {
     let p = values(rgba_at(picture, channels, y * w + x));
     [p.r, p.g, p.b, p.a]
@@ -30,7 +28,7 @@ pub fn neighbours(
     y: Axis,
 ) -> [[f32; 4]; 4]
     requires { ⌜ InPicture (now picture) channels w h x y ⌝ }
-    ensures { λ r. ⌜ r ≡ neighboursOf (λ j. valuesOf (rgbaAt (before picture) channels j)) w x y ⌝ }
+    ensures { λ r. ⌜ r ≡ neighboursOf (valuesAt (before picture) channels) w x y ⌝ }
 {
     let x0 = x.at;
     let x1 = x.next;
@@ -64,15 +62,4 @@ pub fn mix(p: [[f32; 4]; 4], fx: f32, fy: f32) -> Rgba
         b: mixed(p, 2, fx, fy),
         a: mixed(p, 3, fx, fy),
     }
-}
-
-// A picture of w by h pixels, neither side 0 or past 2^24, read at (x, y).
-pub fn bilinear(picture: &[u32], channels: usize, w: usize, h: usize, x: f32, y: f32) -> Rgba
-    requires { ⌜ (1 ≤ channels) × (channels ≤ 4) × (1 ≤ w) × (w ≤ 0x100_0000) × (1 ≤ h) × (h ≤ 0x100_0000) × (length (now picture) ≡ w * h * channels) ⌝ }
-    ensures { λ r. ⌜ r ≡ bilinearOf (λ j. valuesOf (rgbaAt (before picture) channels j)) w h x y ⌝ }
-{
-    let ax = locate(x, w);
-    let ay = locate(y, h);
-    let q = neighbours(picture, channels, w, h, ax, ay);
-    mix(q, ax.along, ay.along)
 }

@@ -1,20 +1,31 @@
 -- `compose::run::span` meets its contract: the pixels of the part are those of the picture. Assumes nothing.
 use mathlib.Core.Path.{_∙_}
-use Prim.Native.Nat.{_+_}
-use Rattle.pictures.specs.Widen.{rgbaAt, valuesOf}
-use Rattle.compose.specs.Plans.{composedBy}
-use Rattle.compose.proofs.Parts.{over-part}
+use Rattle.pictures.specs.Widen.{rgbaAt}
+use Rattle.compose.proofs.Parts.{rest-at, own-beneath}
+use Rattle.compose.proofs.Pixels.{lent}
 use borrow.Author.Needs.{needs}
 use Rattle.compose.proofs.run.span.Statement.{statement}
 use Rattle.compose.proofs.run.span.Tie as tie
 
+-- ---- places of the code
+
+abbrev start : tie.After-run-arg2 → tie.Start
+start c = c .before .before .before .before .before
+
+abbrev composed : tie.After-slice-known2 → tie.After-run
+composed c = c .before .before
+
+-- ---- the needs
+
+run-requires : tie.Need-run-requires
+run-requires c κs = let s = start c in (s .pre .0, lent (s .pre .1), search needs, s .pre .2)
+
 returns : tie.Need-returns
 returns c =
-    let a = c .before .before .before .before .before .before .before .before .args in
-    c .before .before .run .ensures
-    ∙ over-part (λ w i. composedBy (a .p) (a .source .now) (λ k. valuesOf (rgbaAt (a .picture .now) 4 k)) w (a .from + i)) (a .picture .now) (a .out .now) (a .from) (a .count)
+    let a = start (composed c .before) .args in
+    composed c .run .ensures ∙ own-beneath (a .p) (a .source .now) (rgbaAt (a .picture .now) 4) _ (a .from) (a .count) (a .out .now) (λ i h. rest-at _ _ i)
 
 pub span-spec : {M : Type 1} → statement M
 span-spec =
     tie.close
-    (tie.spec (λ c. search needs) (λ c. search needs) (λ c. search needs) (λ c. search needs) (λ c. search needs) (λ c κs. search needs) (λ c. search needs) returns)
+    (tie.spec (λ c. search needs) (λ c. search needs) (λ c. search needs) (λ c. search needs) (λ c. search needs) run-requires (λ c. search needs) returns)
