@@ -3,30 +3,32 @@ use mathlib.Core.Path.{_≡_, refl}
 use mathlib.Core.Bool.{Bool, true, false, cond, not, _||_}
 use mathlib.Core.List.{List, [], _∷_}
 use Prim.Native.Nat.{ℕ, zero, suc, _+_, _*_, _<_, _≤_}
-use native.Mathlib.Nat.{zero-add, add-zero, add-suc, suc-add, le-of-suc-le-suc}
+use native.Mathlib.Nat.{zero-add, add-zero, add-suc, suc-add, le-of-suc-le-suc, le-trans}
 use native.Mathlib.Omega.{arith}
-use lib.Dec.{eqb, ltb}
+use lib.Dec.{eqb, ltb, lit≤}
 use lib.IntN.{ℤ, pos, negsuc, negℤ}
 use lib.ListN.{length}
 use lib.Signed.{ltZ, mag}
 use borrow.Author.Tests.{eqb-true, eqb-false, ltb-false}
+use Rattle.pictures.specs.declared.Shape.{Shape}
+use Rattle.pictures.specs.Shapes.{natOf, outsideZ, mostSide, badShape, sampleCount}
+use Rattle.pictures.proofs.Ranges.{Ranged, ranged, Shaped, shaped, both-fail, not-fails, channels-least, channels-most}
 use Rattle.places.specs.Bounds.{slack, Measured}
 use Rattle.places.specs.Gravities.{lastGravity}
 use Rattle.layers.specs.declared.Layer.{Layer}
 use Rattle.layers.specs.declared.Verdict.{Verdict}
-use Rattle.layers.specs.Cells.{cellOf, natOf, outsideZ, badShape, sampleCount}
-use Rattle.layers.specs.Faults.{firstOf, faultIf, badOffset, badPlacing, badSource, layerChecks, layerFault}
+use Rattle.layers.specs.Cells.{cellOf}
+use Rattle.layers.specs.Faults.{firstOf, faultIf, badOffset, badPlacing, shapeAt, badSource, layerChecks, layerFault}
 use Rattle.layers.specs.GoodLayers.{GoodLayer, Picture}
 use Rattle.layers.specs.Inputs.{Inputs, verdict, badStack, badDst, rowsFault, jobFault}
 use Rattle.layers.specs.Layers.{layerAt}
 use Rattle.layers.specs.Limits.{columns, argWords, mostLayers, mostOffset, atOperator, atGravity, atRight, atDown, atFirst, atWidth, atHeight, atChannels, atCount}
 use Rattle.layers.proofs.Carried.{carried}
-use Rattle.layers.proofs.Ranges.{Ranged, ranged, Shaped, shaped, both-fail, not-fails, channels-least, channels-most}
 
 -- inputs without a fault
 pub record Accepted (i : Inputs) : Type 0 where
-  pub shape : Shaped (i .width) (i .height) (i .channels)
-  pub dst : length (i .dst) ≡ sampleCount (i .width) (i .height) (i .channels)
+  pub shape : Shaped (i .shape)
+  pub dst : length (i .dst) ≡ sampleCount (i .shape)
   pub count : Ranged 1 mostLayers (i .count)
   pub table : length (i .table) ≡ natOf (i .count) * columns
   pub args : length (i .args) ≡ natOf (i .count) * argWords
@@ -54,6 +56,9 @@ passed false n h = refl
 
 -- ---- a row
 
+within-slack : (z : ℤ) → Ranged 0 mostSide z → natOf z ≤ slack
+within-slack z r = le-trans (r .most) (lit≤ tt)
+
 offset-most : (z : ℤ) → badOffset z ≡ false → mag z ≤ slack
 unfolding outsideZ
 offset-most (pos n) e = omega (arith, ltb-false mostOffset n (both-fail (ltZ (pos n) (negℤ (pos mostOffset))) (ltb mostOffset n) e .1))
@@ -70,13 +75,13 @@ module _ (table : List ℤ) (args : List ℕ) (samples k : ℕ) where
       let p = both-fail (g || r) d e in
       (offset-most (cellOf table k atRight) (both-fail g r (p .0) .1), offset-most (cellOf table k atDown) (p .1))
 
-  sourced : badSource table samples k ≡ false → Shaped (cellOf table k atWidth) (cellOf table k atHeight) (cellOf table k atChannels) × (natOf (cellOf table k atFirst) + sampleCount (cellOf table k atWidth) (cellOf table k atHeight) (cellOf table k atChannels) ≤ samples)
+  sourced : badSource table samples k ≡ false → Shaped (shapeAt table k) × (natOf (cellOf table k atFirst) + sampleCount (shapeAt table k) ≤ samples)
   unfolding badSource
   sourced e =
       let n = ltZ (cellOf table k atFirst) (pos 0) in
-      let s = badShape (cellOf table k atWidth) (cellOf table k atHeight) (cellOf table k atChannels) in
+      let s = badShape (shapeAt table k) in
       let p = both-fail (n || s) _ e in
-      (shaped _ _ _ (both-fail n s (p .0) .1), ltb-false samples _ (p .1))
+      (shaped (shapeAt table k) (both-fail n s (p .0) .1), ltb-false samples _ (p .1))
 
   pub good-layer : layerFault table samples k ≡ 0 → GoodLayer samples (layerAt table args k)
   unfolding layerFault layerAt
@@ -88,8 +93,8 @@ module _ (table : List ℤ) (args : List ℕ) (samples k : ℕ) where
         op = carried (cellOf table k atOperator) (n .0);
         right = p .0;
         down = p .1;
-        width = s .0 .wide .most;
-        height = s .0 .high .most;
+        width = within-slack _ (s .0 .wide);
+        height = within-slack _ (s .0 .high);
         channels = s .0 .deep .kind;
         held = s .1;
         count = ranged 0 argWords (cellOf table k atCount) (passed (outsideZ (pos 0) (pos argWords) (cellOf table k atCount)) 7 (n .1 .1 .1 .1 .0)) .most;
@@ -136,13 +141,11 @@ stacked count table args e =
     }
 
 -- the samples of a destination in its range
-pub filled : (width height channels : ℤ) (dst : ℕ) → badDst width height channels dst ≡ false → Shaped width height channels × (dst ≡ sampleCount width height channels)
+pub filled : (s : Shape) (dst : ℕ) → badDst s dst ≡ false → Shaped s × (dst ≡ sampleCount s)
 unfolding badDst
-filled width height channels dst e =
-    let p = both-fail (badShape width height channels) (not (eqb dst (sampleCount width height channels))) e in (
-      shaped width height channels (p .0),
-      eqb-true dst (sampleCount width height channels) (not-fails (eqb dst (sampleCount width height channels)) (p .1)),
-    )
+filled s dst e =
+    let p = both-fail (badShape s) (not (eqb dst (sampleCount s))) e in
+    (shaped s (p .0), eqb-true dst (sampleCount s) (not-fails (eqb dst (sampleCount s)) (p .1)))
 
 -- the tests in turn, where the answer is no fault
 in-turn : (a b : Bool) (v : Verdict) → cond a (verdict 1 0) (cond b (verdict 2 0) v) .number ≡ 0 → (a ≡ false) × ((b ≡ false) × (v .number ≡ 0))
@@ -155,12 +158,12 @@ unfolding jobFault
 accepted i e =
     let t = in-turn
     (badStack (i .count) (length (i .table)) (length (i .args)))
-    (badDst (i .width) (i .height) (i .channels) (length (i .dst)))
+    (badDst (i .shape) (length (i .dst)))
     (rowsFault (i .table) (length (i .samples)) 0 (natOf (i .count)))
     e
     in
     let s = stacked (i .count) (length (i .table)) (length (i .args)) (t .0) in
-    let f = filled (i .width) (i .height) (i .channels) (length (i .dst)) (t .1 .0) in
+    let f = filled (i .shape) (length (i .dst)) (t .1 .0) in
     record {
       shape = f .0;
       dst = f .1;
@@ -194,10 +197,10 @@ measured dw dh samples l wide high g = record {
 }
 
 -- the destination of accepted inputs
-pub destination : (i : Inputs) → Accepted i → Picture (natOf (i .width)) (natOf (i .height)) (natOf (i .channels)) (length (i .dst))
+pub destination : (i : Inputs) → Accepted i → Picture (natOf (i .shape .width)) (natOf (i .shape .height)) (natOf (i .shape .channels)) (length (i .dst))
 destination i g = record {
-  width = g .shape .wide .most;
-  height = g .shape .high .most;
+  width = within-slack _ (g .shape .wide);
+  height = within-slack _ (g .shape .high);
   some = channels-least _ (g .shape .deep .kind);
   most = channels-most _ (g .shape .deep .kind);
   whole = g .dst;

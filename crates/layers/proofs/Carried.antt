@@ -10,10 +10,10 @@ use Rattle.operators.specs.Operators.{count, numberOf, opAt, sameOp}
 use Rattle.operators.specs.declared.CompositeOp.{CompositeOp}
 use Rattle.operators.specs.declared.CompositeOp.the-variants.{Interpolate, Blur}
 use Rattle.operators.specs.declared.Numbered.the-variants.{Op, Unknown, Curve}
-use Rattle.layers.specs.Cells.{natOf}
+use Rattle.pictures.specs.Shapes.{natOf}
+use Rattle.pictures.proofs.Ranges.{both-fail}
 use Rattle.layers.specs.Faults.{opFault}
 use Rattle.layers.specs.GoodLayers.{Carried}
-use Rattle.layers.proofs.Ranges.{both-fail}
 
 passed : (below curve : Bool) (o : CompositeOp) → opFault (cond below (cond curve Curve (Op o)) Unknown) ≡ 0 → (below ≡ true) × (curve ≡ false)
 passed true true o e = absurd (omega arith)

@@ -1,4 +1,4 @@
 pub mod Accepted
 pub mod Carried
-pub mod Ranges
+pub mod Numbers
 pub mod Rows

@@ -10,8 +10,10 @@ use Rattle.faults.specs.Faults.{NONE, OPERATOR, CURVE, PLACING, FLAGS, SOURCE, 
 use Rattle.operators.specs.Numbers.{opOf}
 use Rattle.operators.specs.declared.Numbered.{Numbered}
 use Rattle.operators.specs.declared.Numbered.the-variants.{Op, Unknown, Curve}
+use Rattle.pictures.specs.declared.Shape.{Shape}
+use Rattle.pictures.specs.Shapes.{natOf, outsideZ, shapeOf, badShape, sampleCount}
 use Rattle.places.specs.Gravities.{lastGravity}
-use Rattle.layers.specs.Cells.{cellOf, natOf, outsideZ, badShape, sampleCount}
+use Rattle.layers.specs.Cells.{cellOf}
 use Rattle.layers.specs.Limits.{mostOffset, mostFlags, argWords, atOperator, atGravity, atRight, atDown, atFlags, atFirst, atWidth, atHeight, atChannels, atCount}
 
 -- the first fault of a list of checks
@@ -40,13 +42,16 @@ badPlacing table k =
     || badOffset (cellOf table k atRight)
     || badOffset (cellOf table k atDown)
 
+-- the shape of the source, as row k gives it
+abbrev pub shapeAt : List ℤ → ℕ → Shape
+shapeAt table k = shapeOf (cellOf table k atWidth) (cellOf table k atHeight) (cellOf table k atChannels)
+
 -- SOURCE, for the number of the source samples
 unfoldable pub badSource : List ℤ → ℕ → ℕ → Bool
 badSource table samples k =
     ltZ (cellOf table k atFirst) (pos 0)
-    || badShape (cellOf table k atWidth) (cellOf table k atHeight) (cellOf table k atChannels)
-    || ltb samples
-    (natOf (cellOf table k atFirst) + sampleCount (cellOf table k atWidth) (cellOf table k atHeight) (cellOf table k atChannels))
+    || badShape (shapeAt table k)
+    || ltb samples (natOf (cellOf table k atFirst) + sampleCount (shapeAt table k))
 
 -- the checks of row k, for the number of the source samples
 abbrev pub layerChecks : List ℤ → ℕ → ℕ → List ℕ

@@ -8,39 +8,28 @@ use lib.IntN.{ℤ, pos}
 use lib.ListN.{length}
 use Rattle.lent.specs.Lent.{Lent, before}
 use Rattle.faults.specs.Faults.{NONE, STACK, TRAY}
+use Rattle.pictures.specs.declared.Shape.{Shape}
+use Rattle.pictures.specs.Shapes.{natOf, outsideZ, badShape, sampleCount}
 use Rattle.layers.specs.declared.Verdict.{Verdict}
-use Rattle.layers.specs.Cells.{natOf, outsideZ, badShape, sampleCount}
 use Rattle.layers.specs.Faults.{layerFault}
 use Rattle.layers.specs.Limits.{columns, argWords, mostLayers}
 
--- the destination (document 01: tray) with its sides, channels and samples; the count of layers; the layer table (sheet);
+-- the destination (document 01: tray), its shape and its samples; the count of layers; the layer table (sheet);
 -- the arguments; the source samples (store)
 pub record Inputs : Type 0 where
-  pub width : ℤ
-  pub height : ℤ
-  pub channels : ℤ
+  pub shape : Shape
   pub dst : List ℕ
   pub count : ℤ
   pub table : List ℤ
   pub args : List ℕ
   pub samples : List ℕ
 
-abbrev pub inputsOf : ℤ → ℤ → ℤ → List ℕ → ℤ → List ℤ → List ℕ → List ℕ → Inputs
-inputsOf width height channels dst count table args samples = record {
-  width = width;
-  height = height;
-  channels = channels;
-  dst = dst;
-  count = count;
-  table = table;
-  args = args;
-  samples = samples;
-}
+abbrev pub inputsOf : Shape → List ℕ → ℤ → List ℤ → List ℕ → List ℕ → Inputs
+inputsOf shape dst count table args samples = record { shape = shape; dst = dst; count = count; table = table; args = args; samples = samples }
 
 -- the same by a function's parameters, as an `ensures` names them
-abbrev pub inputs : (width height channels : ℤ) → (dst : Lent (List ℕ)) → (count : ℤ) → (table : Lent (List ℤ)) → (args samples : Lent (List ℕ)) → Inputs
-inputs width height channels dst count table args samples =
-    inputsOf width height channels (before dst) count (before table) (before args) (before samples)
+abbrev pub inputs : Shape → (dst : Lent (List ℕ)) → (count : ℤ) → (table : Lent (List ℤ)) → (args samples : Lent (List ℕ)) → Inputs
+inputs shape dst count table args samples = inputsOf shape (before dst) count (before table) (before args) (before samples)
 
 -- a fault's number and its layer
 abbrev pub verdict : ℕ → ℕ → Verdict
@@ -54,8 +43,8 @@ badStack count table args =
     || not (eqb args (natOf count * argWords))
 
 -- TRAY, for the number of the destination's samples
-unfoldable pub badDst : ℤ → ℤ → ℤ → ℕ → Bool
-badDst width height channels dst = badShape width height channels || not (eqb dst (sampleCount width height channels))
+unfoldable pub badDst : Shape → ℕ → Bool
+badDst shape dst = badShape shape || not (eqb dst (sampleCount shape))
 
 -- the first fault of n rows from row k on, with its row; 0 where there is none
 unfoldable pub rowsFault : List ℤ → ℕ → ℕ → ℕ → Verdict
@@ -68,5 +57,5 @@ rowsFault table samples k (suc n) =
 unfoldable pub jobFault : Inputs → Verdict
 jobFault i =
     cond (badStack (i .count) (length (i .table)) (length (i .args))) (verdict STACK 0)
-    (cond (badDst (i .width) (i .height) (i .channels) (length (i .dst))) (verdict TRAY 0)
+    (cond (badDst (i .shape) (length (i .dst))) (verdict TRAY 0)
     (rowsFault (i .table) (length (i .samples)) 0 (natOf (i .count))))

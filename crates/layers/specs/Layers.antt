@@ -8,12 +8,13 @@ use lib.Dec.{eqb, ltb}
 use lib.IntN.{ℤ}
 use lib.ListN.{getD}
 use Rattle.operators.specs.Operators.{opAt}
+use Rattle.pictures.specs.Shapes.{natOf}
 use Rattle.places.specs.Gravities.{gravityAt}
 use Rattle.layers.specs.declared.Args.{Args}
 use Rattle.layers.specs.declared.ChannelMask.{ChannelMask}
 use Rattle.layers.specs.declared.Layer.{Layer}
 use Rattle.layers.specs.declared.Source.{Source}
-use Rattle.layers.specs.Cells.{cellOf, natOf}
+use Rattle.layers.specs.Cells.{cellOf}
 use Rattle.layers.specs.Limits.{argWords, atOperator, atGravity, atRight, atDown, atFlags, atFirst, atWidth, atHeight, atChannels, atCount, tileBit, overlayBit, redBit, greenBit, blueBit, alphaBit}
 
 -- a bit, a power of two, stands in the flags

@@ -9,12 +9,9 @@ columns = 10
 abbrev pub argWords : ℕ
 argWords = 4
 
--- the most layers, the largest side, the largest offset either way, the largest flags
+-- the most layers, the largest offset either way, the largest flags
 abbrev pub mostLayers : ℕ
 mostLayers = 16
-
-abbrev pub mostSide : ℕ
-mostSide = 2048
 
 abbrev pub mostOffset : ℕ
 mostOffset = 1000000

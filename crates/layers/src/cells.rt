@@ -1,33 +1,18 @@
-// The numbers of the layer table, and what is asked of one number or of a picture's shape. The contracts cite specs/Cells.
+// The numbers of the layer table, and what is asked of one or of the source's. The contracts cite specs/Cells and specs/Faults.
 ghost use mathlib.Core.Path.{_≡_};
-ghost use mathlib.Core.Bool.{false};
 ghost use Prim.Native.Nat.{_+_, _*_, _<_, _≤_};
 ghost use lib.ListN.{length};
 ghost use Rattle.lent.specs.Lent.{before};
-ghost use Rattle.layers.specs.Cells.{cellOf, natOf, outsideZ, badChannels, badShape, sampleCount};
-ghost use Rattle.layers.specs.Faults.{badSource};
+ghost use Rattle.pictures.specs.Shapes.{natOf, outsideZ};
+ghost use Rattle.layers.specs.Cells.{cellOf};
+ghost use Rattle.layers.specs.Faults.{shapeAt, badSource};
 ghost use Rattle.layers.specs.Limits.{columns};
 use crate::Layer;
-
-// A number that is not negative as an unsigned one; a negative one as 0.
-pub fn natural(z: i64) -> usize
-    ensures { λ r. ⌜ r ≡ natOf z ⌝ }
-{
-    if z < 0 {
-        return 0;
-    }
-    z as usize
-}
-
-// Whether a number is not from lo to hi.
-pub fn outside(z: i64, lo: i64, hi: i64) -> bool
-    ensures { λ r. ⌜ r ≡ outsideZ lo hi z ⌝ }
-{
-    if z < lo {
-        return true;
-    }
-    hi < z
-}
+use pictures::Shape;
+use pictures::shapes::bad_shape;
+use pictures::shapes::natural;
+use pictures::shapes::outside;
+use pictures::shapes::sample_count;
 
 // The number in a column of row k.
 pub fn cell(table: &[i64], k: usize, column: usize) -> i64
@@ -51,45 +36,16 @@ pub fn outside_at(table: &[i64], k: usize, column: usize, lo: i64, hi: i64) -> b
     outside(cell(table, k, column), lo, hi)
 }
 
-// Whether a number is none of 1, 3 and 4.
-pub fn bad_channels(z: i64) -> bool
-    ensures { λ r. ⌜ r ≡ badChannels z ⌝ }
+// The shape of the source, as row k gives it.
+fn shape_at(table: &[i64], k: usize) -> Shape
+    requires { ⌜ k * columns + columns ≤ length (now table) ⌝ }
+    ensures { λ r. ⌜ r ≡ shapeAt (before table) k ⌝ }
 {
-    if z < 0 {
-        return true;
+    Shape {
+        width: cell(table, k, Layer::AT_WIDTH),
+        height: cell(table, k, Layer::AT_HEIGHT),
+        channels: cell(table, k, Layer::AT_CHANNELS),
     }
-    let n = z as usize;
-    if n == 1 {
-        return false;
-    }
-    if n == 3 {
-        return false;
-    }
-    n != 4
-}
-
-// Whether a side or the channels of a picture are out of their range.
-pub fn bad_shape(width: i64, height: i64, channels: i64) -> bool
-    ensures { λ r. ⌜ r ≡ badShape width height channels ⌝ }
-{
-    if outside(width, 0, Layer::SIDE) {
-        return true;
-    }
-    if outside(height, 0, Layer::SIDE) {
-        return true;
-    }
-    bad_channels(channels)
-}
-
-// The samples of a picture whose shape is in its range.
-pub fn area(width: i64, height: i64, channels: i64) -> usize
-    requires { ⌜ badShape width height channels ≡ false ⌝ }
-    ensures { λ r. ⌜ r ≡ sampleCount width height channels ⌝ }
-{
-    let w = natural(width);
-    let h = natural(height);
-    let c = natural(channels);
-    w * h * c
 }
 
 // Whether the source of row k is none, or does not lie in so many samples.
@@ -101,11 +57,9 @@ pub fn bad_source(table: &[i64], k: usize, samples: usize) -> bool
     if first < 0 {
         return true;
     }
-    let width = cell(table, k, Layer::AT_WIDTH);
-    let height = cell(table, k, Layer::AT_HEIGHT);
-    let channels = cell(table, k, Layer::AT_CHANNELS);
-    if bad_shape(width, height, channels) {
+    let shape = shape_at(table, k);
+    if bad_shape(shape) {
         return true;
     }
-    samples < natural(first) + area(width, height, channels)
+    samples < natural(first) + sample_count(shape)
 }

@@ -13,6 +13,11 @@ ghost use Rattle.layers.specs.Limits.{columns, argWords, atOperator};
 use faults::Fault;
 use operators::CompositeOp;
 use operators::Numbered;
+use pictures::Shape;
+use pictures::shapes::bad_shape;
+use pictures::shapes::natural;
+use pictures::shapes::outside;
+use pictures::shapes::sample_count;
 use places::Gravity;
 
 pub mod cells;
@@ -140,8 +145,6 @@ impl Layer {
 
     pub const MOST: i64 = 16;
 
-    pub const SIDE: i64 = 2048;
-
     pub const OFFSET: i64 = 1000000;
 
     pub const FLAGS: i64 = 63;
@@ -253,10 +256,10 @@ impl Layer {
 fn bad_stack(count: i64, table: usize, args: usize) -> bool
     ensures { λ r. ⌜ r ≡ badStack count table args ⌝ }
 {
-    if cells::outside(count, 1, Layer::MOST) {
+    if outside(count, 1, Layer::MOST) {
         return true;
     }
-    let n = cells::natural(count);
+    let n = natural(count);
     if table != n * Layer::COLUMNS {
         return true;
     }
@@ -264,13 +267,13 @@ fn bad_stack(count: i64, table: usize, args: usize) -> bool
 }
 
 // Whether the destination's shape is none, or its samples are not as many as it says.
-fn bad_dst(width: i64, height: i64, channels: i64, dst: usize) -> bool
-    ensures { λ r. ⌜ r ≡ badDst width height channels dst ⌝ }
+fn bad_dst(shape: Shape, dst: usize) -> bool
+    ensures { λ r. ⌜ r ≡ badDst shape dst ⌝ }
 {
-    if cells::bad_shape(width, height, channels) {
+    if bad_shape(shape) {
         return true;
     }
-    dst != cells::area(width, height, channels)
+    dst != sample_count(shape)
 }
 
 // The first fault of so many rows, with its row.
@@ -297,18 +300,14 @@ fn rows_fault(table: &[i64], layers: usize, samples: usize) -> Verdict
 
 // The first fault of a job's inputs: STACK and TRAY, then the rows' layer by layer.
 pub fn check(
-    width: i64,
-    height: i64,
-    channels: i64,
+    shape: Shape,
     dst: &[u32],
     count: i64,
     table: &[i64],
     args: &[u32],
     samples: &[u32],
 ) -> Verdict
-    ensures { λ r. ⌜
-        r ≡ jobFault (inputs width height channels dst count table args samples)
-        ⌝ }
+    ensures { λ r. ⌜ r ≡ jobFault (inputs shape dst count table args samples) ⌝ }
 {
     if bad_stack(count, table.len(), args.len()) {
         return Verdict {
@@ -316,11 +315,11 @@ pub fn check(
             layer: 0,
         };
     }
-    if bad_dst(width, height, channels, dst.len()) {
+    if bad_dst(shape, dst.len()) {
         return Verdict {
             number: Fault::TRAY,
             layer: 0,
         };
     }
-    rows_fault(table, cells::natural(count), samples.len())
+    rows_fault(table, natural(count), samples.len())
 }

@@ -9,9 +9,9 @@ use lib.Dec.{eqb}
 use lib.IntN.{ℤ}
 use lib.ListN.{length}
 use borrow.Author.Tests.{eqb-true}
-use Rattle.layers.specs.Cells.{natOf, badChannels, Channels}
-use Rattle.layers.specs.Faults.{faultIf}
-use Rattle.layers.proofs.Ranges.{channelled, both-fail, not-fails}
+use Rattle.faults.specs.Faults.{NONE, NARROW}
+use Rattle.pictures.specs.Shapes.{natOf, badChannels, Channels}
+use Rattle.pictures.proofs.Ranges.{channelled, both-fail, not-fails}
 use Rattle.narrowing.specs.Narrow.{narrowedOf, narrowFault, acceptedChannels}
 use Rattle.narrowing.proofs.Narrowed.{length-narrowed}
 
@@ -29,16 +29,16 @@ passed z n m e =
     let p = both-fail (a || b) (not (eqb m (n / 4 * natOf z))) e in
     (channelled z (both-fail a b (p .0) .0) .kind, sym (eqb-true _ _ (not-fails _ (p .1))))
 
-pub refused : (z : ℤ) (n m : ℕ) → acceptedChannels z n m ≡ 0 → narrowFault z n m ≡ 11
+pub refused : (z : ℤ) (n m : ℕ) → acceptedChannels z n m ≡ 0 → narrowFault z n m ≡ NARROW
 unfolding acceptedChannels narrowFault
 refused z n m h = by (refuses z n m) refl h
   where
-    by : (t : Bool) → refuses z n m ≡ t → cond (eqb (faultIf t 11) 0) (natOf z) 0 ≡ 0 → faultIf t 11 ≡ 11
+    by : (t : Bool) → refuses z n m ≡ t → cond (eqb (cond t NARROW NONE) NONE) (natOf z) 0 ≡ 0 → cond t NARROW NONE ≡ NARROW
     by true e h = refl
     by false e h = ⊎-elim (λ a. absurd (omega arith)) (λ v. ⊎-elim (λ a. absurd (omega arith)) (λ a. absurd (omega arith)) v) (passed z n m e .0)
 
 pub record Accepted (z : ℤ) (k : ℕ) (input output : List ℕ) : Type 0 where
-  pub none : narrowFault z (length input) (length output) ≡ 0
+  pub none : narrowFault z (length input) (length output) ≡ NONE
   pub natural : k ≡ natOf z
   pub wanted : Channels k
   pub room : length input / 4 * k ≡ length output
@@ -48,7 +48,7 @@ pub accepted : (z : ℤ) (k : ℕ) (input output : List ℕ) → k ≡ acceptedC
 unfolding acceptedChannels narrowFault
 accepted z k input output asked h = by (refuses z (length input) (length output)) refl asked
   where
-    by : (t : Bool) → refuses z (length input) (length output) ≡ t → k ≡ cond (eqb (faultIf t 11) 0) (natOf z) 0 → Accepted z k input output
+    by : (t : Bool) → refuses z (length input) (length output) ≡ t → k ≡ cond (eqb (cond t NARROW NONE) NONE) (natOf z) 0 → Accepted z k input output
     by true e a = absurd (h a)
     by false e a =
         let p = passed z (length input) (length output) e in

@@ -9,7 +9,8 @@ use native.Mathlib.Omega.{arith}
 use lib.IntN.{ℤ}
 use lib.ListN.{length, getD, take, drop, set, length-set, length-map, drop-of-length-le, List·getD-map}
 use lib.Seq.{paste-suc, take-all}
-use Rattle.layers.specs.Cells.{natOf, Channels}
+use Rattle.faults.specs.Faults.{NONE, NARROW}
+use Rattle.pictures.specs.Shapes.{natOf, Channels}
 use Rattle.narrowing.specs.Narrow.{narrowedOf, narrowFault, narrowed, narrowedUnless, acceptedChannels}
 use Rattle.narrowing.proofs.Accepting.{Accepted, accepted, refused}
 
@@ -25,7 +26,7 @@ module _ (z : ℤ) (k : ℕ) (input old : List ℕ) (e : k ≡ acceptedChannels 
   none-written step h = record { asked = accepted z k input old e h; most = omega arith; made = refl; same = refl }
 
   -- the answer where 0 channels are accepted; y is the number z, before the code held it as bits
-  pub answer-refused : {y : ℤ} (new : List ℕ) → z ≡ y → k ≡ 0 → narrowed 11 old ≡ narrowedUnless (narrowFault y (length input) (length old)) new old
+  pub answer-refused : {y : ℤ} (new : List ℕ) → z ≡ y → k ≡ 0 → narrowed NARROW old ≡ narrowedUnless (narrowFault y (length input) (length old)) new old
   unfolding narrowedUnless
   answer-refused new same h = rw (← same, refused z (length input) (length old) (sym e ∙ h))
 
@@ -47,9 +48,9 @@ module _ (step : ℕ → ℕ) {z : ℤ} {k : ℕ} {input old out : List ℕ} {i 
     same = length-set out i v ∙ f .same;
   }
 
-  pub answer-accepted : {y : ℤ} → z ≡ y → length out ≤ i → narrowed 0 out ≡ narrowedUnless (narrowFault y (length input) (length old)) (map step (narrowedOf (natOf y) input)) old
+  pub answer-accepted : {y : ℤ} → z ≡ y → length out ≤ i → narrowed NONE out ≡ narrowedUnless (narrowFault y (length input) (length old)) (map step (narrowedOf (natOf y) input)) old
   unfolding narrowedUnless
-  answer-accepted same h = rw (← same, f .asked .none, ← f .asked .natural) (ap (narrowed 0) all)
+  answer-accepted same h = rw (← same, f .asked .none, ← f .asked .natural) (ap (narrowed NONE) all)
     where
       all : out ≡ map step (narrowedOf k input)
       all =

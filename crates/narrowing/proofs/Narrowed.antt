@@ -10,8 +10,8 @@ use lib.Seq.{getD-append-add, getD-take}
 use Rattle.float_steps.specs.Words.{wordOf}
 use Rattle.pictures.specs.declared.Words.{Words}
 use Rattle.pictures.specs.Widen.{wordsOf, fourAt, rgbaAt, valuesOf}
+use Rattle.pictures.specs.Shapes.{Channels}
 use Rattle.pictures.proofs.FlatWords.{rgba-further}
-use Rattle.layers.specs.Cells.{Channels}
 use Rattle.narrowing.specs.Luma.{lumaOf}
 use Rattle.narrowing.specs.Narrow.{narrowedPixel, narrowedOf}
 

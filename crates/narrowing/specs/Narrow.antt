@@ -11,9 +11,8 @@ use Rattle.float_steps.specs.Whole.{byteOf}
 use Rattle.float_steps.specs.Words.{valueOf, wordOf}
 use Rattle.faults.specs.Faults.{NONE, NARROW}
 use Rattle.pictures.specs.declared.Words.{Words}
+use Rattle.pictures.specs.Shapes.{natOf, badChannels}
 use Rattle.pictures.specs.Widen.{wordsOf, valuesOf}
-use Rattle.layers.specs.Cells.{natOf, badChannels}
-use Rattle.layers.specs.Faults.{faultIf}
 use Rattle.narrowing.specs.Luma.{lumaOf}
 
 -- ---- the words
@@ -42,7 +41,7 @@ bytesOf words = map (λ w. byteOf (valueOf w)) words
 -- the fault, for the lengths of the input and of the output
 unfoldable pub narrowFault : ℤ → ℕ → ℕ → ℕ
 narrowFault wanted input output =
-    faultIf (badChannels wanted || not (eqb (input % 4) 0) || not (eqb output (input / 4 * natOf wanted))) NARROW
+    cond (badChannels wanted || not (eqb (input % 4) 0) || not (eqb output (input / 4 * natOf wanted))) NARROW NONE
 
 -- the number that is answered and the whole output
 pub record Narrowed : Type 0 where

@@ -5,15 +5,16 @@ ghost use mathlib.Core.Path.{_≡_};
 ghost use Prim.Native.Nat.{_*_, _/_, _<_};
 ghost use lib.ListN.{length, getD};
 ghost use Rattle.lent.specs.Lent.{before, after};
-ghost use Rattle.layers.specs.Cells.{Channels};
+ghost use Rattle.pictures.specs.Shapes.{Channels};
 ghost use Rattle.narrowing.specs.Luma.{lumaOf};
 ghost use Rattle.narrowing.specs.Narrow.{narrowedOf, narrowed, narrowOf, narrowBytesOf, acceptedChannels};
 use faults::Fault;
 use float_steps::whole::byte;
 use float_steps::words::value;
 use float_steps::words::word;
-use layers::cells;
 use pictures::Rgba;
+use pictures::shapes::bad_channels;
+use pictures::shapes::natural;
 use pictures::widen::rgba_at;
 use pictures::widen::values;
 
@@ -53,13 +54,13 @@ fn narrowed_at(channels: usize, input: &[u32], i: usize) -> u32
 fn accepted_channels(wanted: i64, input: usize, output: usize) -> usize
     ensures { λ r. ⌜ r ≡ acceptedChannels wanted input output ⌝ }
 {
-    if cells::bad_channels(wanted) {
+    if bad_channels(wanted) {
         return 0;
     }
     if input % 4 != 0 {
         return 0;
     }
-    let channels = cells::natural(wanted);
+    let channels = natural(wanted);
     if output == input / 4 * channels {
         channels
     } else {

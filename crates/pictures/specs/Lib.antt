@@ -1,3 +1,4 @@
 pub mod Widen
 pub mod FlatWords
 pub mod Bilinear
+pub mod Shapes

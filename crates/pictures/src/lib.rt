@@ -3,6 +3,7 @@
 // A picture is a list of words (binary32 patterns), row by row, `channels` of them a pixel. The definitions are in specs/.
 pub mod bilinear; // bilinear.rt: `bilinear_into`
 pub mod flat; // flat.rt: pixels written into a list of words
+pub mod shapes; // shapes.rt: a picture's sides and channels as a caller gives them, and which are accepted
 pub mod widen; // widen.rt: `to_rgba` of one pixel
 
 // The four words of a pixel.
@@ -19,4 +20,11 @@ pub struct Rgba {
     pub g: f32,
     pub b: f32,
     pub a: f32,
+}
+
+// A picture's sides in pixels and its channels, as a caller gives them: any numbers.
+pub struct Shape {
+    pub width: i64,
+    pub height: i64,
+    pub channels: i64,
 }

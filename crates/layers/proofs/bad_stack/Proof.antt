@@ -5,10 +5,10 @@ use native.Mathlib.Omega.{arith}
 use lib.IntN.{pos}
 use mir.Facts.{toZ-ofZ}
 use borrow.Author.Tests.{eq-eqb, ne-eqb}
-use Rattle.layers.specs.Cells.{natOf, outsideZ}
+use Rattle.pictures.specs.Shapes.{natOf, outsideZ}
+use Rattle.pictures.proofs.Ranges.{ranged}
 use Rattle.layers.specs.Inputs.{badStack}
 use Rattle.layers.specs.Limits.{mostLayers}
-use Rattle.layers.proofs.Ranges.{ranged}
 use borrow.Author.Needs.{needs}
 use Rattle.layers.proofs.bad_stack.Statement.{statement}
 use Rattle.layers.proofs.bad_stack.Tie as tie

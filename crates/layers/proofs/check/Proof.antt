@@ -3,7 +3,7 @@ use mathlib.Core.Path.{_≡_, sym, _∙_}
 use native.Mathlib.Omega.{arith}
 use lib.ListN.{length}
 use mir.Facts.{toZ-ofZ}
-use Rattle.layers.specs.Cells.{natOf}
+use Rattle.pictures.specs.Shapes.{natOf}
 use Rattle.layers.specs.Inputs.{badStack, badDst, jobFault}
 use Rattle.layers.proofs.Accepted.{stacked}
 use borrow.Author.Needs.{needs}
@@ -16,11 +16,6 @@ start c = c .before .before .before .before
 stack : (c : tie.After-bad-stack) → c .bad-stack .result ≡ badStack (start c .args .count) (length (start c .args .table .now)) (length (start c .args .args .now))
 stack c = rw (toZ-ofZ (start c .fits .count)) at (c .bad-stack .ensures)
 
-dst : (c : tie.After-bad-dst) → c .bad-dst .result ≡ badDst (start (c .before .before) .args .width) (start (c .before .before) .args .height) (start (c .before .before) .args .channels) (length (start (c .before .before) .args .dst .now))
-dst c =
-    let s = start (c .before .before) in
-    rw (toZ-ofZ (s .fits .width), toZ-ofZ (s .fits .height), toZ-ofZ (s .fits .channels)) at (c .bad-dst .ensures)
-
 number : (c : tie.After-natural) → c .natural .result ≡ natOf (start (c .before .before .before .before) .args .count)
 number c = rw (toZ-ofZ (start (c .before .before .before .before) .fits .count)) at (c .natural .ensures)
 
@@ -30,7 +25,7 @@ returns c = rw (← stack (c .before), c .if1 .taken)
 
 returns-2 : tie.Need-returns-2
 unfolding jobFault
-returns-2 c = rw (← stack (c .before .before .before), c .before .before .if1 .left, ← dst (c .before), c .if2 .taken)
+returns-2 c = rw (← stack (c .before .before .before), c .before .before .if1 .left, ← c .before .bad-dst .ensures, c .if2 .taken)
 
 rows-fault-requires : tie.Need-rows-fault-requires
 rows-fault-requires c κs =
@@ -43,7 +38,7 @@ returns-3 c =
     let n = c .before in
     let d = n .before in
     let e = d .before .before in
-    rw (← stack (e .before), e .if1 .left, ← dst (d .before), d .if2 .left, ← number n) (c .rows-fault .ensures)
+    rw (← stack (e .before), e .if1 .left, ← d .before .bad-dst .ensures, d .if2 .left, ← number n) (c .rows-fault .ensures)
 
 pub check-spec : {M : Type 1} → statement M
 check-spec =

@@ -6,8 +6,8 @@ use native.Mathlib.Omega.{arith}
 use mir.Facts.{toZ-ofZ}
 use borrow.Author.Needs.{needs}
 use borrow.Author.Tests.{eq-eqb, ne-eqb}
-use Rattle.layers.specs.Cells.{natOf, badChannels}
-use Rattle.layers.proofs.Ranges.{channelled, channels-most}
+use Rattle.pictures.specs.Shapes.{natOf, badChannels}
+use Rattle.pictures.proofs.Ranges.{channelled, channels-most}
 use Rattle.narrowing.specs.Narrow.{narrowFault, acceptedChannels}
 use Rattle.narrowing.proofs.accepted_channels.Statement.{statement}
 use Rattle.narrowing.proofs.accepted_channels.Tie as tie

@@ -6,7 +6,8 @@ use lib.IntN.{pos}
 use borrow.Author.Needs.{needs}
 use borrow.Author.Tests.{ne-eqb}
 use Rattle.faults.specs.Faults.{PLACING, FLAGS, SOURCE, ARGUMENTS}
-use Rattle.layers.specs.Cells.{cellOf, outsideZ}
+use Rattle.pictures.specs.Shapes.{outsideZ}
+use Rattle.layers.specs.Cells.{cellOf}
 use Rattle.layers.specs.Faults.{firstOf, faultIf, layerFault}
 use Rattle.layers.specs.Limits.{argWords, atCount}
 use Rattle.layers.proofs.Layer.fault.Statement.{statement}

@@ -1,54 +1,56 @@
 -- `layers::cells::bad_source` meets its contract: a start below 2^63 and a shape in its range make a sum that fits. Assumes nothing.
-use mathlib.Core.Path.{_≡_, refl, sym, ap, _∙_}
+use mathlib.Core.Path.{_≡_, sym, ap, _∙_}
 use mathlib.Core.Bool.{false}
 use native.Mathlib.Omega.{arith}
-use borrow.Author.Needs.{sfits-of}
+use borrow.Author.Needs.{needs}
 use lib.IntN.{ℤ, pos}
 use lib.Signed.{ltZ}
 use mir.Syntax.{w64}
 use mir.Val.{toZ, ofZ}
-use mir.Facts.{toZ-ofZ}
-use Rattle.layers.specs.Cells.{cellOf, natOf, badShape, sampleCount}
-use Rattle.layers.specs.Faults.{badSource}
-use Rattle.layers.specs.Limits.{atFirst, atWidth, atHeight, atChannels}
-use Rattle.layers.proofs.Ranges.{shaped, area-most, nat-mag, shape-as, area-at}
-use borrow.Author.Needs.{needs}
+use Rattle.pictures.specs.declared.Shape.{Shape}
+use Rattle.pictures.specs.Shapes.{natOf, badShape, sampleCount}
+use Rattle.pictures.proofs.Ranges.{shaped, samples-most}
+use Rattle.layers.specs.Cells.{cellOf}
+use Rattle.layers.specs.Faults.{shapeAt, badSource}
+use Rattle.layers.specs.Limits.{atFirst}
+use Rattle.layers.proofs.Numbers.{answered, answered-small}
 use Rattle.layers.proofs.cells.bad_source.Statement.{statement}
 use Rattle.layers.proofs.cells.bad_source.Tie as tie
 
+-- the source's start and its shape
+abbrev from : tie.Start → ℤ
+from s = cellOf (s .args .table .now) (s .args .k) atFirst
+
+abbrev shape : tie.Start → Shape
+shape s = shapeAt (s .args .table .now) (s .args .k)
+
+-- the places: where the start is found not negative, and where the shape is found in its range
+abbrev begun : tie.After-bad-shape → tie.Else1
+begun c = c .before .before
+
 abbrev start : tie.After-bad-shape → tie.Start
-start c = c .before .before .before .before .before .before
+start c = begun c .before .before
 
--- the numbers read, as the calls have them
-first : (c : tie.After-cell) → toZ w64 (ofZ w64 (c .cell .result)) ≡ cellOf (c .before .args .table .now) (c .before .args .k) atFirst
-first c = toZ-ofZ (sfits-of (c .cell .ok)) ∙ c .cell .ensures
+abbrev fit : tie.After-sample-count → tie.Else2
+fit c = c .before .before
 
-width : (c : tie.After-cell2) → toZ w64 (ofZ w64 (c .cell2 .result)) ≡ cellOf (c .before .before .before .args .table .now) (c .before .before .before .args .k) atWidth
-width c = toZ-ofZ (sfits-of (c .cell2 .ok)) ∙ c .cell2 .ensures
+first : (c : tie.After-cell) → toZ w64 (ofZ w64 (c .cell .result)) ≡ from (c .before)
+first c = answered (c .cell .ok) (c .cell .ensures)
 
-height : (c : tie.After-cell3) → toZ w64 (ofZ w64 (c .cell3 .result)) ≡ cellOf (c .before .before .before .before .args .table .now) (c .before .before .before .before .args .k) atHeight
-height c = toZ-ofZ (sfits-of (c .cell3 .ok)) ∙ c .cell3 .ensures
-
-channels : (c : tie.After-cell4) → toZ w64 (ofZ w64 (c .cell4 .result)) ≡ cellOf (c .before .before .before .before .before .args .table .now) (c .before .before .before .before .before .args .k) atChannels
-channels c = toZ-ofZ (sfits-of (c .cell4 .ok)) ∙ c .cell4 .ensures
-
--- what the first test left, and the shape's test
-not-negative : (c : tie.Else1) → ltZ (cellOf (c .before .before .args .table .now) (c .before .before .args .k) atFirst) (pos 0) ≡ false
+not-negative : (c : tie.Else1) → ltZ (from (c .before .before)) (pos 0) ≡ false
 not-negative c = ap (λ (z : ℤ). ltZ z (pos 0)) (sym (first (c .before))) ∙ c .if1 .left
 
-shape : (c : tie.After-bad-shape) → c .bad-shape .result ≡ badShape (cellOf (start c .args .table .now) (start c .args .k) atWidth) (cellOf (start c .args .table .now) (start c .args .k) atHeight) (cellOf (start c .args .table .now) (start c .args .k) atChannels)
-shape c = shape-as (c .bad-shape .ensures) (width (c .before .before .before)) (height (c .before .before)) (channels (c .before))
+tested : (c : tie.After-bad-shape) → c .bad-shape .result ≡ badShape (shape (start c))
+tested c = c .bad-shape .ensures ∙ ap badShape (c .before .shape-at .ensures)
 
-fine : (c : tie.Else2) → badShape (cellOf (start (c .before) .args .table .now) (start (c .before) .args .k) atWidth) (cellOf (start (c .before) .args .table .now) (start (c .before) .args .k) atHeight) (cellOf (start (c .before) .args .table .now) (start (c .before) .args .k) atChannels) ≡ false
-fine c = sym (shape (c .before)) ∙ c .if2 .left
+in-range : (c : tie.Else2) → badShape (shape (start (c .before))) ≡ false
+in-range c = sym (tested (c .before)) ∙ c .if2 .left
 
-area : (c : tie.After-area) → c .area .result ≡ sampleCount (cellOf (start (c .before .before .before) .args .table .now) (start (c .before .before .before) .args .k) atWidth) (cellOf (start (c .before .before .before) .args .table .now) (start (c .before .before .before) .args .k) atHeight) (cellOf (start (c .before .before .before) .args .table .now) (start (c .before .before .before) .args .k) atChannels)
-area c =
-    let b = c .before .before .before in
-    area-at (c .area .ensures) (width (b .before .before .before)) (height (b .before .before)) (channels (b .before))
+begins : (c : tie.After-natural) → c .natural .result ≡ natOf (from (start (c .before .before)))
+begins c = c .natural .ensures ∙ ap natOf (first (begun (c .before .before) .before))
 
-from : (c : tie.After-natural) → c .natural .result ≡ natOf (cellOf (start (c .before .before) .args .table .now) (start (c .before .before) .args .k) atFirst)
-from c = c .natural .ensures ∙ ap natOf (first (c .before .before .before .before .before .before .before))
+samples : (c : tie.After-sample-count) → c .sample-count .result ≡ sampleCount (shape (start (fit c .before)))
+samples c = c .sample-count .ensures ∙ ap sampleCount (fit c .before .before .shape-at .ensures)
 
 returns : tie.Need-returns
 unfolding badSource
@@ -56,36 +58,16 @@ returns c = rw (ap (λ (z : ℤ). ltZ z (pos 0)) (sym (first (c .before))) ∙ c
 
 returns-2 : tie.Need-returns-2
 unfolding badSource
-returns-2 c = rw (not-negative (c .before .before .before .before .before), ← shape (c .before), c .if2 .taken)
-
-area-requires : tie.Need-area-requires
-area-requires c κs =
-    let b = c .before .before in
-    sym (shape-as (c .before .before .bad-shape .ensures) refl refl refl) ∙ c .before .if2 .left
+returns-2 c = rw (not-negative (begun (c .before)), ← tested (c .before), c .if2 .taken)
 
 add-result : tie.Need-add-result
 add-result c =
-    let a = c .before .before .before .before .before .before .before .before in
-    let f : c .before .natural .result ≡ natOf (a .cell .result) =
-    c .before .natural .ensures ∙ ap natOf (toZ-ofZ (sfits-of (a .cell .ok)))
-    in
-    record {
-      fits =
-          omega (
-            arith,
-            area c,
-            area-most _ _ _ (shaped _ _ _ (fine (c .before .before))),
-            f,
-            nat-mag (a .cell .result),
-            a .cell .ok,
-          );
-    }
+    let read = begun (fit c .before) .before .cell in
+    record { fits = omega (arith, begins (c .before), answered-small (read .ok) (read .ensures), samples c, samples-most (shaped _ (in-range (fit c)))) }
 
 returns-3 : tie.Need-returns-3
 unfolding badSource
-returns-3 c =
-    let b = c .before .before .before in
-    rw (not-negative (b .before .before .before .before), fine (c .before .before), from (c .before), area c)
+returns-3 c = rw (not-negative (begun (fit c .before)), in-range (fit c), begins (c .before), samples c)
 
 pub bad-source-spec : {M : Type 1} → statement M
 bad-source-spec =
@@ -95,10 +77,8 @@ bad-source-spec =
     returns
     (λ c κs. search needs)
     (λ c κs. search needs)
-    (λ c κs. search needs)
-    (λ c κs. search needs)
     returns-2
     (λ c κs. search needs)
-    area-requires
+    (λ c κs. sym (c .before .before .bad-shape .ensures) ∙ c .before .if2 .left)
     add-result
     returns-3)

@@ -4,7 +4,8 @@ use borrow.Author.Needs.{sfits-of}
 use mir.Syntax.{w64}
 use mir.Val.{toZ, ofZ}
 use mir.Facts.{toZ-ofZ}
-use Rattle.layers.specs.Cells.{cellOf, natOf}
+use Rattle.pictures.specs.Shapes.{natOf}
+use Rattle.layers.specs.Cells.{cellOf}
 use borrow.Author.Needs.{needs}
 use Rattle.layers.proofs.cells.natural_at.Statement.{statement}
 use Rattle.layers.proofs.cells.natural_at.Tie as tie

@@ -5,7 +5,8 @@ use borrow.Author.Needs.{sfits-of}
 use mir.Syntax.{w64}
 use mir.Val.{toZ, ofZ}
 use mir.Facts.{toZ-ofZ}
-use Rattle.layers.specs.Cells.{cellOf, outsideZ}
+use Rattle.pictures.specs.Shapes.{outsideZ}
+use Rattle.layers.specs.Cells.{cellOf}
 use borrow.Author.Needs.{needs}
 use Rattle.layers.proofs.cells.outside_at.Statement.{statement}
 use Rattle.layers.proofs.cells.outside_at.Tie as tie

@@ -1,10 +1,10 @@
--- `layers::cells::natural` meets its contract. Assumes nothing.
+-- `pictures::shapes::natural` meets its contract. Assumes nothing.
 use mathlib.Core.Path.{sym, ap}
 use mir.Facts.{toZ-ofZ}
 use Rattle.laws.proofs.Signed.{below-zero, from-zero, casts}
-use Rattle.layers.specs.Cells.{natOf}
-use Rattle.layers.proofs.cells.natural.Statement.{statement}
-use Rattle.layers.proofs.cells.natural.Tie as tie
+use Rattle.pictures.specs.Shapes.{natOf}
+use Rattle.pictures.proofs.shapes.natural.Statement.{statement}
+use Rattle.pictures.proofs.shapes.natural.Tie as tie
 
 returns : tie.Need-returns
 unfolding natOf

@@ -1,22 +1,16 @@
--- Numbers of the layer table: the bounds of those in their ranges. Assumes nothing.
+-- Numbers in their ranges, and the bounds of a picture whose shape is in its range. Assumes nothing.
 use mathlib.Core.Path.{_≡_, refl}
 use mathlib.Core.Bool.{Bool, true, false, not, _||_}
 use mathlib.Core.Logic.{inl, inr}
 use Prim.Native.Nat.{ℕ, _*_, _≤_}
 use native.Mathlib.Omega.{arith}
-use native.Mathlib.Nat.{mul-le-mul, le-trans}
-use lib.Dec.{ltb, eqb, lit≤}
+use native.Mathlib.Nat.{mul-le-mul}
+use lib.Dec.{ltb, eqb}
 use lib.IntN.{ℤ, pos, negsuc}
 use lib.Signed.{mag}
 use borrow.Author.Tests.{ltb-false, eqb-true}
-use Rattle.places.specs.Bounds.{slack}
-use Rattle.layers.specs.Cells.{natOf, outsideZ, badChannels, Channels, badShape, sampleCount}
-use Rattle.layers.specs.Limits.{mostSide}
-
-pub nat-mag : (z : ℤ) → natOf z ≤ mag z
-unfolding natOf
-nat-mag (pos n) = omega arith
-nat-mag (negsuc n) = omega arith
+use Rattle.pictures.specs.declared.Shape.{Shape}
+use Rattle.pictures.specs.Shapes.{natOf, outsideZ, badChannels, Channels, mostSide, badShape, sampleCount}
 
 -- ---- a test that fails
 
@@ -28,7 +22,12 @@ pub not-fails : (a : Bool) → not a ≡ false → a ≡ true
 not-fails true e = refl
 not-fails false e = let x : _≡_ {A = ℕ} 0 1 = cc in absurd (omega arith)
 
--- ---- numbers in their ranges
+-- ---- a number
+
+pub nat-mag : (z : ℤ) → natOf z ≤ mag z
+unfolding natOf
+nat-mag (pos n) = omega arith
+nat-mag (negsuc n) = omega arith
 
 -- z is a natural number from lo to hi
 pub record Ranged (lo hi : ℕ) (z : ℤ) : Type 0 where
@@ -42,6 +41,8 @@ ranged lo hi (pos n) e =
     let p = both-fail (ltb n lo) (ltb hi n) e in
     record { natural = refl; least = ltb-false n lo (p .0); most = ltb-false hi n (p .1) }
 ranged lo hi (negsuc n) e = let x : _≡_ {A = ℕ} 0 1 = cc in absurd (omega arith)
+
+-- ---- channels
 
 one-of : (a b c : Bool) (n : ℕ) → eqb n 1 ≡ a → eqb n 3 ≡ b → eqb n 4 ≡ c → (a || b || c) ≡ true → Channels n
 one-of true b c n p q r e = inl (eqb-true n 1 p)
@@ -72,45 +73,24 @@ channels-least n (inl e) = omega arith
 channels-least n (inr (inl e)) = omega arith
 channels-least n (inr (inr e)) = omega arith
 
--- a picture's shape in its range
-pub record Shaped (width height channels : ℤ) : Type 0 where
-  pub wide : Ranged 0 slack width
-  pub high : Ranged 0 slack height
-  pub deep : Channelled channels
+-- ---- a picture's shape
 
-within-slack : (z : ℤ) → Ranged 0 mostSide z → Ranged 0 slack z
-within-slack z r = record { natural = r .natural; least = r .least; most = le-trans (r .most) (lit≤ tt) }
+pub record Shaped (s : Shape) : Type 0 where
+  pub wide : Ranged 0 mostSide (s .width)
+  pub high : Ranged 0 mostSide (s .height)
+  pub deep : Channelled (s .channels)
 
-pub shaped : (width height channels : ℤ) → badShape width height channels ≡ false → Shaped width height channels
+pub shaped : (s : Shape) → badShape s ≡ false → Shaped s
 unfolding badShape
-shaped width height channels e =
-    let w = outsideZ (pos 0) (pos mostSide) width in
-    let h = outsideZ (pos 0) (pos mostSide) height in
-    let p = both-fail (w || h) (badChannels channels) e in
+shaped s e =
+    let w = outsideZ (pos 0) (pos mostSide) (s .width) in
+    let h = outsideZ (pos 0) (pos mostSide) (s .height) in
+    let p = both-fail (w || h) (badChannels (s .channels)) e in
     let q = both-fail w h (p .0) in
-    record {
-      wide = within-slack width (ranged 0 mostSide width (q .0));
-      high = within-slack height (ranged 0 mostSide height (q .1));
-      deep = channelled channels (p .1);
-    }
+    record { wide = ranged 0 mostSide (s .width) (q .0); high = ranged 0 mostSide (s .height) (q .1); deep = channelled (s .channels) (p .1) }
 
--- the samples of such a picture
-pub plane-most : (w h c : ℤ) → Shaped w h c → natOf w * natOf h ≤ slack * slack
-plane-most w h c s = mul-le-mul (s .wide .most) (s .high .most)
+pub plane-most : {s : Shape} → Shaped s → natOf (s .width) * natOf (s .height) ≤ mostSide * mostSide
+plane-most h = mul-le-mul (h .wide .most) (h .high .most)
 
-pub area-most : (w h c : ℤ) → Shaped w h c → sampleCount w h c ≤ slack * slack * 4
-area-most w h c s = mul-le-mul (plane-most w h c s) (channels-most (natOf c) (s .deep .kind))
-
--- products of equal numbers
-pub plane-as : {x y a b : ℕ} → x ≡ a → y ≡ b → x * y ≡ a * b
-plane-as p q = rw (p, q)
-
-pub area-as : {x y z a b c : ℕ} → x ≡ a → y ≡ b → z ≡ c → x * y * z ≡ a * b * c
-area-as p q r = rw (p, q, r)
-
--- answers of calls with equal arguments
-pub shape-as : {r : Bool} {x y z a b c : ℤ} → r ≡ badShape x y z → x ≡ a → y ≡ b → z ≡ c → r ≡ badShape a b c
-shape-as e p q s = rw (← p, ← q, ← s) e
-
-pub area-at : {n : ℕ} {x y z a b c : ℤ} → n ≡ sampleCount x y z → x ≡ a → y ≡ b → z ≡ c → n ≡ sampleCount a b c
-area-at e p q s = rw (← p, ← q, ← s) e
+pub samples-most : {s : Shape} → Shaped s → sampleCount s ≤ mostSide * mostSide * 4
+samples-most h = mul-le-mul (plane-most h) (channels-most _ (h .deep .kind))

@@ -1,11 +1,11 @@
--- `layers::cells::outside` meets its contract. Assumes nothing.
+-- `pictures::shapes::outside` meets its contract. Assumes nothing.
 use mathlib.Core.Path.{_≡_}
 use mathlib.Core.Bool.{true, false}
 use lib.Signed.{ltZ}
 use mir.Facts.{toZ-ofZ}
-use Rattle.layers.specs.Cells.{outsideZ}
-use Rattle.layers.proofs.cells.outside.Statement.{statement}
-use Rattle.layers.proofs.cells.outside.Tie as tie
+use Rattle.pictures.specs.Shapes.{outsideZ}
+use Rattle.pictures.proofs.shapes.outside.Statement.{statement}
+use Rattle.pictures.proofs.shapes.outside.Tie as tie
 
 below : (c : tie.Then1) → ltZ (c .before .args .z) (c .before .args .lo) ≡ true
 below c = rw (toZ-ofZ (c .before .fits .z), toZ-ofZ (c .before .fits .lo)) at (c .if1 .taken)
