@@ -6,10 +6,11 @@ use native.Mathlib.Numerals.{add-one}
 use native.Mathlib.Omega.{arith}
 use lib.IntN.{ℤ}
 use borrow.Author.Tests.{eq-eqb, ne-eqb}
+use Rattle.layers.specs.Cells.{rowAt}
 use Rattle.layers.specs.Faults.{layerFault}
 use Rattle.layers.specs.Inputs.{rowsFault, verdict}
 
-module _ (table : List ℤ) (samples k n f : ℕ) (h : k < n) (e : f ≡ layerFault table samples k) where
+module _ (table : List ℤ) (samples : ℕ) {k n f : ℕ} (h : k < n) (e : f ≡ layerFault (rowAt table k) samples) where
   left : n - k ≡ suc (n - (k + 1))
   left = omega arith
 
@@ -25,5 +26,5 @@ pub done : (table : List ℤ) (samples k n : ℕ) → n ≤ k → rowsFault tabl
 unfolding rowsFault
 done table samples k n h = let z : n - k ≡ 0 = omega arith in rw z
 
-pub start : (table : List ℤ) (samples n : ℕ) → rowsFault table samples 0 n ≡ rowsFault table samples 0 (n - 0)
-start table samples n = let z : n - 0 ≡ n = omega arith in rw z
+pub none-passed : (table : List ℤ) (samples n : ℕ) → rowsFault table samples 0 n ≡ rowsFault table samples 0 (n - 0)
+none-passed table samples n = let z : n - 0 ≡ n = omega arith in rw z

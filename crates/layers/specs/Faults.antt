@@ -36,32 +36,32 @@ abbrev pub badOffset : ℤ → Bool
 badOffset z = outsideZ (negℤ (pos mostOffset)) (pos mostOffset) z
 
 -- PLACING
-unfoldable pub badPlacing : List ℤ → ℕ → Bool
-badPlacing table k =
-    outsideZ (pos 0) (pos lastGravity) (cellOf table k atGravity)
-    || badOffset (cellOf table k atRight)
-    || badOffset (cellOf table k atDown)
+unfoldable pub badPlacing : (row : List ℤ) → Bool
+badPlacing row =
+    outsideZ (pos 0) (pos lastGravity) (cellOf row atGravity)
+    || badOffset (cellOf row atRight)
+    || badOffset (cellOf row atDown)
 
--- the shape of the source, as row k gives it
-abbrev pub shapeAt : List ℤ → ℕ → Shape
-shapeAt table k = shapeOf (cellOf table k atWidth) (cellOf table k atHeight) (cellOf table k atChannels)
+-- the shape of the source, as a row gives it
+abbrev pub sourceShape : (row : List ℤ) → Shape
+sourceShape row = shapeOf (cellOf row atWidth) (cellOf row atHeight) (cellOf row atChannels)
 
 -- SOURCE, for the number of the source samples
-unfoldable pub badSource : List ℤ → ℕ → ℕ → Bool
-badSource table samples k =
-    ltZ (cellOf table k atFirst) (pos 0)
-    || badShape (shapeAt table k)
-    || ltb samples (natOf (cellOf table k atFirst) + sampleCount (shapeAt table k))
+unfoldable pub badSource : (row : List ℤ) → (samples : ℕ) → Bool
+badSource row samples =
+    ltZ (cellOf row atFirst) (pos 0)
+    || badShape (sourceShape row)
+    || ltb samples (natOf (cellOf row atFirst) + sampleCount (sourceShape row))
 
--- the checks of row k, for the number of the source samples
-abbrev pub layerChecks : List ℤ → ℕ → ℕ → List ℕ
-layerChecks table samples k =
-    opFault (opOf (cellOf table k atOperator))
-    ∷ faultIf (badPlacing table k) PLACING
-    ∷ faultIf (outsideZ (pos 0) (pos mostFlags) (cellOf table k atFlags)) FLAGS
-    ∷ faultIf (badSource table samples k) SOURCE
-    ∷ faultIf (outsideZ (pos 0) (pos argWords) (cellOf table k atCount)) ARGUMENTS
+-- the checks of a row, for the number of the source samples
+abbrev pub layerChecks : (row : List ℤ) → (samples : ℕ) → List ℕ
+layerChecks row samples =
+    opFault (opOf (cellOf row atOperator))
+    ∷ faultIf (badPlacing row) PLACING
+    ∷ faultIf (outsideZ (pos 0) (pos mostFlags) (cellOf row atFlags)) FLAGS
+    ∷ faultIf (badSource row samples) SOURCE
+    ∷ faultIf (outsideZ (pos 0) (pos argWords) (cellOf row atCount)) ARGUMENTS
     ∷ []
 
-unfoldable pub layerFault : List ℤ → ℕ → ℕ → ℕ
-layerFault table samples k = firstOf (layerChecks table samples k)
+unfoldable pub layerFault : (row : List ℤ) → (samples : ℕ) → ℕ
+layerFault row samples = firstOf (layerChecks row samples)

@@ -11,6 +11,7 @@ use Rattle.faults.specs.Faults.{NONE, STACK, TRAY}
 use Rattle.pictures.specs.declared.Shape.{Shape}
 use Rattle.pictures.specs.Shapes.{natOf, outsideZ, badShape, sampleCount}
 use Rattle.layers.specs.declared.Verdict.{Verdict}
+use Rattle.layers.specs.Cells.{rowAt}
 use Rattle.layers.specs.Faults.{layerFault}
 use Rattle.layers.specs.Limits.{columns, argWords, mostLayers}
 
@@ -47,12 +48,12 @@ unfoldable pub badDst : Shape → ℕ → Bool
 badDst shape dst = badShape shape || not (eqb dst (sampleCount shape))
 
 -- the first fault of n rows from row k on, with its row; 0 where there is none
-unfoldable pub rowsFault : List ℤ → ℕ → ℕ → ℕ → Verdict
+unfoldable pub rowsFault : (table : List ℤ) → (samples k n : ℕ) → Verdict
 rowsFault table samples k zero = verdict NONE 0
 rowsFault table samples k (suc n) =
-    cond (eqb (layerFault table samples k) NONE)
+    cond (eqb (layerFault (rowAt table k) samples) NONE)
     (rowsFault table samples (suc k) n)
-    (verdict (layerFault table samples k) k)
+    (verdict (layerFault (rowAt table k) samples) k)
 
 unfoldable pub jobFault : Inputs → Verdict
 jobFault i =

@@ -3,7 +3,7 @@
 -- their ranges is asked in Faults.
 use mathlib.Core.Bool.{Bool, cond}
 use mathlib.Core.List.{List}
-use Prim.Native.Nat.{ℕ, _+_, _*_, _/_, _%_}
+use Prim.Native.Nat.{ℕ, _/_, _%_}
 use lib.Dec.{eqb, ltb}
 use lib.IntN.{ℤ}
 use lib.ListN.{getD}
@@ -14,8 +14,8 @@ use Rattle.layers.specs.declared.Args.{Args}
 use Rattle.layers.specs.declared.ChannelMask.{ChannelMask}
 use Rattle.layers.specs.declared.Layer.{Layer}
 use Rattle.layers.specs.declared.Source.{Source}
-use Rattle.layers.specs.Cells.{cellOf}
-use Rattle.layers.specs.Limits.{argWords, atOperator, atGravity, atRight, atDown, atFlags, atFirst, atWidth, atHeight, atChannels, atCount, tileBit, overlayBit, redBit, greenBit, blueBit, alphaBit}
+use Rattle.layers.specs.Cells.{rowAt, wordsAt, cellOf}
+use Rattle.layers.specs.Limits.{atOperator, atGravity, atRight, atDown, atFlags, atFirst, atWidth, atHeight, atChannels, atCount, tileBit, overlayBit, redBit, greenBit, blueBit, alphaBit}
 
 -- a bit, a power of two, stands in the flags
 unfoldable pub flagged : ℕ → ℕ → Bool
@@ -29,36 +29,40 @@ maskOf flags = record {
   alpha = flagged flags alphaBit;
 }
 
-abbrev pub sourceAt : List ℤ → ℕ → Source
-sourceAt table k = record {
-  first = natOf (cellOf table k atFirst);
-  width = natOf (cellOf table k atWidth);
-  height = natOf (cellOf table k atHeight);
-  channels = natOf (cellOf table k atChannels);
+abbrev pub sourceIn : (row : List ℤ) → Source
+sourceIn row = record {
+  first = natOf (cellOf row atFirst);
+  width = natOf (cellOf row atWidth);
+  height = natOf (cellOf row atHeight);
+  channels = natOf (cellOf row atChannels);
 }
 
--- argument i of layer k; past the count it is not read and stands as 0
-unfoldable pub argOf : List ℕ → ℕ → ℕ → ℕ → ℕ
-argOf args k count i = cond (ltb i count) (getD args (k * argWords + i) 0) 0
+-- argument i of a layer's words; past the count it is not read and stands as 0
+unfoldable pub argOf : (words : List ℕ) → (count i : ℕ) → ℕ
+argOf words count i = cond (ltb i count) (getD words i 0) 0
 
-abbrev pub argsAt : List ℕ → ℕ → ℕ → Args
-argsAt args k count = record {
+abbrev pub argsOf : (words : List ℕ) → (count : ℕ) → Args
+argsOf words count = record {
   count = count;
-  a0 = argOf args k count 0;
-  a1 = argOf args k count 1;
-  a2 = argOf args k count 2;
-  a3 = argOf args k count 3;
+  a0 = argOf words count 0;
+  a1 = argOf words count 1;
+  a2 = argOf words count 2;
+  a3 = argOf words count 3;
 }
 
-unfoldable pub layerAt : List ℤ → List ℕ → ℕ → Layer
-layerAt table args k = record {
-  op = opAt (natOf (cellOf table k atOperator));
-  gravity = gravityAt (natOf (cellOf table k atGravity));
-  right = cellOf table k atRight;
-  down = cellOf table k atDown;
-  tile = flagged (natOf (cellOf table k atFlags)) tileBit;
-  «outside_overlay» = flagged (natOf (cellOf table k atFlags)) overlayBit;
-  mask = maskOf (natOf (cellOf table k atFlags));
-  source = sourceAt table k;
-  args = argsAt args k (natOf (cellOf table k atCount));
+unfoldable pub layerOf : (row : List ℤ) → (words : List ℕ) → Layer
+layerOf row words = record {
+  op = opAt (natOf (cellOf row atOperator));
+  gravity = gravityAt (natOf (cellOf row atGravity));
+  right = cellOf row atRight;
+  down = cellOf row atDown;
+  tile = flagged (natOf (cellOf row atFlags)) tileBit;
+  «outside_overlay» = flagged (natOf (cellOf row atFlags)) overlayBit;
+  mask = maskOf (natOf (cellOf row atFlags));
+  source = sourceIn row;
+  args = argsOf words (natOf (cellOf row atCount));
 }
+
+-- layer k of a job
+unfoldable pub layerAt : (table : List ℤ) → (args : List ℕ) → (k : ℕ) → Layer
+layerAt table args k = layerOf (rowAt table k) (wordsAt args k)

@@ -1,12 +1,12 @@
-// The numbers of the layer table, and what is asked of one or of the source's. The contracts cite specs/Cells and specs/Faults.
+// The numbers of a layer's row, and the words of its arguments. The contracts cite specs/Cells and specs/Faults.
 ghost use mathlib.Core.Path.{_≡_};
 ghost use Prim.Native.Nat.{_+_, _*_, _<_, _≤_};
 ghost use lib.ListN.{length};
 ghost use Rattle.lent.specs.Lent.{before};
 ghost use Rattle.pictures.specs.Shapes.{natOf, outsideZ};
-ghost use Rattle.layers.specs.Cells.{cellOf};
-ghost use Rattle.layers.specs.Faults.{shapeAt, badSource};
-ghost use Rattle.layers.specs.Limits.{columns};
+ghost use Rattle.layers.specs.Cells.{rowAt, wordsAt, cellOf};
+ghost use Rattle.layers.specs.Faults.{sourceShape, badSource};
+ghost use Rattle.layers.specs.Limits.{columns, argWords};
 use crate::Layer;
 use pictures::Shape;
 use pictures::shapes::bad_shape;
@@ -14,50 +14,68 @@ use pictures::shapes::natural;
 use pictures::shapes::outside;
 use pictures::shapes::sample_count;
 
-// The number in a column of row k.
-pub fn cell(table: &[i64], k: usize, column: usize) -> i64
-    requires { ⌜ k * columns + column < length (now table) ⌝ }
-    ensures { λ r. ⌜ r ≡ cellOf (before table) k column ⌝ }
-{
-    table[k * Layer::COLUMNS + column]
-}
-
-pub fn natural_at(table: &[i64], k: usize, column: usize) -> usize
-    requires { ⌜ k * columns + column < length (now table) ⌝ }
-    ensures { λ r. ⌜ r ≡ natOf (cellOf (before table) k column) ⌝ }
-{
-    natural(cell(table, k, column))
-}
-
-pub fn outside_at(table: &[i64], k: usize, column: usize, lo: i64, hi: i64) -> bool
-    requires { ⌜ k * columns + column < length (now table) ⌝ }
-    ensures { λ r. ⌜ r ≡ outsideZ lo hi (cellOf (before table) k column) ⌝ }
-{
-    outside(cell(table, k, column), lo, hi)
-}
-
-// The shape of the source, as row k gives it.
-fn shape_at(table: &[i64], k: usize) -> Shape
+// Row k of the layer table.
+pub fn row_at(table: &[i64], k: usize) -> &[i64]
     requires { ⌜ k * columns + columns ≤ length (now table) ⌝ }
-    ensures { λ r. ⌜ r ≡ shapeAt (before table) k ⌝ }
+    ensures { λ r. ⌜ (now r ≡ rowAt (before table) k) × (length (now r) ≡ columns) ⌝ }
+{
+    let first = k * Layer::COLUMNS;
+    &table[first..first + Layer::COLUMNS]
+}
+
+// The words of layer k's arguments.
+pub fn words_at(args: &[u32], k: usize) -> &[u32]
+    requires { ⌜ k * argWords + argWords ≤ length (now args) ⌝ }
+    ensures { λ r. ⌜ (now r ≡ wordsAt (before args) k) × (length (now r) ≡ argWords) ⌝ }
+{
+    let first = k * Layer::ARGS;
+    &args[first..first + Layer::ARGS]
+}
+
+// The number in a column of a row.
+pub fn cell(row: &[i64], column: usize) -> i64
+    requires { ⌜ column < length (now row) ⌝ }
+    ensures { λ r. ⌜ r ≡ cellOf (before row) column ⌝ }
+{
+    row[column]
+}
+
+pub fn natural_at(row: &[i64], column: usize) -> usize
+    requires { ⌜ column < length (now row) ⌝ }
+    ensures { λ r. ⌜ r ≡ natOf (cellOf (before row) column) ⌝ }
+{
+    natural(cell(row, column))
+}
+
+pub fn outside_at(row: &[i64], column: usize, lo: i64, hi: i64) -> bool
+    requires { ⌜ column < length (now row) ⌝ }
+    ensures { λ r. ⌜ r ≡ outsideZ lo hi (cellOf (before row) column) ⌝ }
+{
+    outside(cell(row, column), lo, hi)
+}
+
+// The shape of the source, as a row gives it.
+fn source_shape(row: &[i64]) -> Shape
+    requires { ⌜ length (now row) ≡ columns ⌝ }
+    ensures { λ r. ⌜ r ≡ sourceShape (before row) ⌝ }
 {
     Shape {
-        width: cell(table, k, Layer::AT_WIDTH),
-        height: cell(table, k, Layer::AT_HEIGHT),
-        channels: cell(table, k, Layer::AT_CHANNELS),
+        width: cell(row, Layer::AT_WIDTH),
+        height: cell(row, Layer::AT_HEIGHT),
+        channels: cell(row, Layer::AT_CHANNELS),
     }
 }
 
-// Whether the source of row k is none, or does not lie in so many samples.
-pub fn bad_source(table: &[i64], k: usize, samples: usize) -> bool
-    requires { ⌜ k * columns + columns ≤ length (now table) ⌝ }
-    ensures { λ r. ⌜ r ≡ badSource (before table) samples k ⌝ }
+// Whether the source of a row is none, or does not lie in so many samples.
+pub fn bad_source(row: &[i64], samples: usize) -> bool
+    requires { ⌜ length (now row) ≡ columns ⌝ }
+    ensures { λ r. ⌜ r ≡ badSource (before row) samples ⌝ }
 {
-    let first = cell(table, k, Layer::AT_FIRST);
+    let first = cell(row, Layer::AT_FIRST);
     if first < 0 {
         return true;
     }
-    let shape = shape_at(table, k);
+    let shape = source_shape(row);
     if bad_shape(shape) {
         return true;
     }

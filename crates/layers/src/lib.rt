@@ -8,7 +8,7 @@ ghost use Rattle.operators.specs.Numbers.{opOf};
 ghost use Rattle.layers.specs.Cells.{cellOf};
 ghost use Rattle.layers.specs.Faults.{opFault, badPlacing, layerFault};
 ghost use Rattle.layers.specs.Inputs.{inputs, badStack, badDst, rowsFault, jobFault};
-ghost use Rattle.layers.specs.Layers.{flagged, maskOf, sourceAt, argOf, argsAt, layerAt};
+ghost use Rattle.layers.specs.Layers.{flagged, maskOf, sourceIn, argOf, argsOf, layerOf, layerAt};
 ghost use Rattle.layers.specs.Limits.{columns, argWords, atOperator};
 use faults::Fault;
 use operators::CompositeOp;
@@ -96,43 +96,43 @@ impl ChannelMask {
 }
 
 impl Source {
-    // The source of row k.
-    fn at(table: &[i64], k: usize) -> Source
-        requires { ⌜ k * columns + columns ≤ length (now table) ⌝ }
-        ensures { λ r. ⌜ r ≡ sourceAt (before table) k ⌝ }
+    // The source that a row names.
+    fn of(row: &[i64]) -> Source
+        requires { ⌜ length (now row) ≡ columns ⌝ }
+        ensures { λ r. ⌜ r ≡ sourceIn (before row) ⌝ }
     {
         Source {
-            first: cells::natural_at(table, k, Layer::AT_FIRST),
-            width: cells::natural_at(table, k, Layer::AT_WIDTH),
-            height: cells::natural_at(table, k, Layer::AT_HEIGHT),
-            channels: cells::natural_at(table, k, Layer::AT_CHANNELS),
+            first: cells::natural_at(row, Layer::AT_FIRST),
+            width: cells::natural_at(row, Layer::AT_WIDTH),
+            height: cells::natural_at(row, Layer::AT_HEIGHT),
+            channels: cells::natural_at(row, Layer::AT_CHANNELS),
         }
     }
 }
 
-// Argument i of layer k, 0 where it is past the count.
-fn arg(args: &[u32], k: usize, count: usize, i: usize) -> u32
-    requires { ⌜ (k * argWords + argWords ≤ length (now args)) × (i < argWords) ⌝ }
-    ensures { λ r. ⌜ r ≡ argOf (before args) k count i ⌝ }
+// Argument i of a layer's words, 0 where it is past the count.
+fn arg(words: &[u32], count: usize, i: usize) -> u32
+    requires { ⌜ i < length (now words) ⌝ }
+    ensures { λ r. ⌜ r ≡ argOf (before words) count i ⌝ }
 {
     if i < count {
-        return args[k * Layer::ARGS + i];
+        return words[i];
     }
     0
 }
 
 impl Args {
-    // The arguments of layer k, of which so many are read.
-    fn at(args: &[u32], k: usize, count: usize) -> Args
-        requires { ⌜ k * argWords + argWords ≤ length (now args) ⌝ }
-        ensures { λ r. ⌜ r ≡ argsAt (before args) k count ⌝ }
+    // A layer's words, of which so many are read.
+    fn of(words: &[u32], count: usize) -> Args
+        requires { ⌜ length (now words) ≡ argWords ⌝ }
+        ensures { λ r. ⌜ r ≡ argsOf (before words) count ⌝ }
     {
         Args {
             count: count,
-            a0: arg(args, k, count, 0),
-            a1: arg(args, k, count, 1),
-            a2: arg(args, k, count, 2),
-            a3: arg(args, k, count, 3),
+            a0: arg(words, count, 0),
+            a1: arg(words, count, 1),
+            a2: arg(words, count, 2),
+            a3: arg(words, count, 3),
         }
     }
 }
@@ -173,36 +173,44 @@ impl Layer {
 
     pub const AT_COUNT: usize = 9;
 
-    // Layer k, of any row: `fault` tells whether its numbers are in their ranges.
-    pub fn at(table: &[i64], args: &[u32], k: usize) -> Layer
-        requires { ⌜ (k * columns + columns ≤ length (now table)) × (k * argWords + argWords ≤ length (now args)) ⌝ }
-        ensures { λ r. ⌜ r ≡ layerAt (before table) (before args) k ⌝ }
+    // A layer from its row, any row, and the words of its arguments: `fault` tells whether the row's numbers are in their ranges.
+    pub fn of(row: &[i64], words: &[u32]) -> Layer
+        requires { ⌜ (length (now row) ≡ columns) × (length (now words) ≡ argWords) ⌝ }
+        ensures { λ r. ⌜ r ≡ layerOf (before row) (before words) ⌝ }
     {
-        let op = CompositeOp::at(cells::natural_at(table, k, Self::AT_OPERATOR));
-        let gravity = Gravity::from_number(cells::natural_at(table, k, Self::AT_GRAVITY) as u64);
-        let flags = cells::natural_at(table, k, Self::AT_FLAGS);
+        let op = CompositeOp::at(cells::natural_at(row, Self::AT_OPERATOR));
+        let gravity = Gravity::from_number(cells::natural_at(row, Self::AT_GRAVITY) as u64);
+        let flags = cells::natural_at(row, Self::AT_FLAGS);
         let mask = ChannelMask::of(flags);
-        let source = Source::at(table, k);
-        let words = Args::at(args, k, cells::natural_at(table, k, Self::AT_COUNT));
+        let source = Source::of(row);
+        let args = Args::of(words, cells::natural_at(row, Self::AT_COUNT));
         Layer {
             op: op,
             gravity: gravity,
-            right: cells::cell(table, k, Self::AT_RIGHT),
-            down: cells::cell(table, k, Self::AT_DOWN),
+            right: cells::cell(row, Self::AT_RIGHT),
+            down: cells::cell(row, Self::AT_DOWN),
             tile: flag(flags, Self::TILE),
             outside_overlay: flag(flags, Self::OVERLAY),
             mask: mask,
             source: source,
-            args: words,
+            args: args,
         }
     }
 
-    // The fault of what a row's operator names.
-    fn operator_fault(table: &[i64], k: usize) -> u64
-        requires { ⌜ k * columns + columns ≤ length (now table) ⌝ }
-        ensures { λ r. ⌜ r ≡ opFault (opOf (cellOf (before table) k atOperator)) ⌝ }
+    // Layer k of a job.
+    pub fn at(table: &[i64], args: &[u32], k: usize) -> Layer
+        requires { ⌜ (k * columns + columns ≤ length (now table)) × (k * argWords + argWords ≤ length (now args)) ⌝ }
+        ensures { λ r. ⌜ r ≡ layerAt (before table) (before args) k ⌝ }
     {
-        match CompositeOp::from_number(cells::cell(table, k, Self::AT_OPERATOR)) {
+        Self::of(cells::row_at(table, k), cells::words_at(args, k))
+    }
+
+    // The fault of what a row's operator names.
+    fn operator_fault(row: &[i64]) -> u64
+        requires { ⌜ length (now row) ≡ columns ⌝ }
+        ensures { λ r. ⌜ r ≡ opFault (opOf (cellOf (before row) atOperator)) ⌝ }
+    {
+        match CompositeOp::from_number(cells::cell(row, Self::AT_OPERATOR)) {
             Numbered::Op(_) => Fault::NONE,
             Numbered::Unknown => Fault::OPERATOR,
             Numbered::Curve => Fault::CURVE,
@@ -210,29 +218,29 @@ impl Layer {
     }
 
     // Whether the gravity or an offset is out of its range.
-    fn bad_placing(table: &[i64], k: usize) -> bool
-        requires { ⌜ k * columns + columns ≤ length (now table) ⌝ }
-        ensures { λ r. ⌜ r ≡ badPlacing (before table) k ⌝ }
+    fn bad_placing(row: &[i64]) -> bool
+        requires { ⌜ length (now row) ≡ columns ⌝ }
+        ensures { λ r. ⌜ r ≡ badPlacing (before row) ⌝ }
     {
-        if cells::outside_at(table, k, Self::AT_GRAVITY, 0, Gravity::LAST as i64) {
+        if cells::outside_at(row, Self::AT_GRAVITY, 0, Gravity::LAST as i64) {
             return true;
         }
-        if cells::outside_at(table, k, Self::AT_RIGHT, -Self::OFFSET, Self::OFFSET) {
+        if cells::outside_at(row, Self::AT_RIGHT, -Self::OFFSET, Self::OFFSET) {
             return true;
         }
-        cells::outside_at(table, k, Self::AT_DOWN, -Self::OFFSET, Self::OFFSET)
+        cells::outside_at(row, Self::AT_DOWN, -Self::OFFSET, Self::OFFSET)
     }
 
-    // The number of the first fault of row k.
-    pub fn fault(table: &[i64], k: usize, samples: usize) -> u64
-        requires { ⌜ k * columns + columns ≤ length (now table) ⌝ }
-        ensures { λ r. ⌜ r ≡ layerFault (before table) samples k ⌝ }
+    // The number of a row's first fault.
+    pub fn fault(row: &[i64], samples: usize) -> u64
+        requires { ⌜ length (now row) ≡ columns ⌝ }
+        ensures { λ r. ⌜ r ≡ layerFault (before row) samples ⌝ }
     {
-        let operator = Self::operator_fault(table, k);
-        let placing = Self::bad_placing(table, k);
-        let flags = cells::outside_at(table, k, Self::AT_FLAGS, 0, Self::FLAGS);
-        let source = cells::bad_source(table, k, samples);
-        let arguments = cells::outside_at(table, k, Self::AT_COUNT, 0, Self::ARGS as i64);
+        let operator = Self::operator_fault(row);
+        let placing = Self::bad_placing(row);
+        let flags = cells::outside_at(row, Self::AT_FLAGS, 0, Self::FLAGS);
+        let source = cells::bad_source(row, samples);
+        let arguments = cells::outside_at(row, Self::AT_COUNT, 0, Self::ARGS as i64);
         if operator != Fault::NONE {
             return operator;
         }
@@ -283,7 +291,7 @@ fn rows_fault(table: &[i64], layers: usize, samples: usize) -> Verdict
 {
     let mut k = 0;
     while k < layers {
-        let f = Layer::fault(table, k, samples);
+        let f = Layer::fault(cells::row_at(table, k), samples);
         if f != Fault::NONE {
             return Verdict {
                 number: f,

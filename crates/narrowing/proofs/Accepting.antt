@@ -8,10 +8,10 @@ use native.Mathlib.Omega.{arith}
 use lib.Dec.{eqb}
 use lib.IntN.{ℤ}
 use lib.ListN.{length}
-use borrow.Author.Tests.{eqb-true}
+use borrow.Author.Tests.{eqb-true, not-false}
 use Rattle.faults.specs.Faults.{NONE, NARROW}
 use Rattle.pictures.specs.Shapes.{natOf, badChannels, Channels}
-use Rattle.pictures.proofs.Ranges.{channelled, both-fail, not-fails}
+use Rattle.pictures.proofs.Ranges.{all-fail, channelled}
 use Rattle.narrowing.specs.Narrow.{narrowedOf, narrowFault, acceptedChannels}
 use Rattle.narrowing.proofs.Narrowed.{length-narrowed}
 
@@ -24,10 +24,7 @@ refuses z n m = badChannels z || not (eqb (n % 4) 0) || not (eqb m (n / 4 * natO
 -- what is known where they fail: there are channels wanted of the input, and the output has room for just them
 passed : (z : ℤ) (n m : ℕ) → refuses z n m ≡ false → Channels (natOf z) × (n / 4 * natOf z ≡ m)
 passed z n m e =
-    let a = badChannels z in
-    let b = not (eqb (n % 4) 0) in
-    let p = both-fail (a || b) (not (eqb m (n / 4 * natOf z))) e in
-    (channelled z (both-fail a b (p .0) .0) .kind, sym (eqb-true _ _ (not-fails _ (p .1))))
+    let p = all-fail _ (not (eqb (n % 4) 0)) _ e in (channelled z (p .0) .kind, sym (eqb-true _ _ (not-false _ (p .2))))
 
 pub refused : (z : ℤ) (n m : ℕ) → acceptedChannels z n m ≡ 0 → narrowFault z n m ≡ NARROW
 unfolding acceptedChannels narrowFault

@@ -1,26 +1,27 @@
 -- Numbers in their ranges, and the bounds of a picture whose shape is in its range. Assumes nothing.
 use mathlib.Core.Path.{_≡_, refl}
-use mathlib.Core.Bool.{Bool, true, false, not, _||_}
+use mathlib.Core.Bool.{Bool, true, false, _||_, true≢false, false≢true}
 use mathlib.Core.Logic.{inl, inr}
 use Prim.Native.Nat.{ℕ, _*_, _≤_}
 use native.Mathlib.Omega.{arith}
 use native.Mathlib.Nat.{mul-le-mul}
-use lib.Dec.{ltb, eqb}
+use lib.Dec.{eqb}
 use lib.IntN.{ℤ, pos, negsuc}
 use lib.Signed.{mag}
-use borrow.Author.Tests.{ltb-false, eqb-true}
+use borrow.Author.Tests.{ltb-false, eqb-true, not-false}
 use Rattle.pictures.specs.declared.Shape.{Shape}
 use Rattle.pictures.specs.Shapes.{natOf, outsideZ, badChannels, Channels, mostSide, badShape, sampleCount}
 
--- ---- a test that fails
+-- ---- tests that fail
 
 pub both-fail : (a b : Bool) → (a || b) ≡ false → (a ≡ false) × (b ≡ false)
-both-fail true b e = let x : _≡_ {A = ℕ} 0 1 = cc in absurd (omega arith)
+both-fail true b e = absurd (true≢false e)
 both-fail false b e = (refl, e)
 
-pub not-fails : (a : Bool) → not a ≡ false → a ≡ true
-not-fails true e = refl
-not-fails false e = let x : _≡_ {A = ℕ} 0 1 = cc in absurd (omega arith)
+pub all-fail : (a b c : Bool) → (a || b || c) ≡ false → (a ≡ false) × (b ≡ false) × (c ≡ false)
+all-fail true b c e = absurd (true≢false e)
+all-fail false true c e = absurd (true≢false e)
+all-fail false false c e = (refl, refl, e)
 
 -- ---- a number
 
@@ -37,10 +38,8 @@ pub record Ranged (lo hi : ℕ) (z : ℤ) : Type 0 where
 
 pub ranged : (lo hi : ℕ) (z : ℤ) → outsideZ (pos lo) (pos hi) z ≡ false → Ranged lo hi z
 unfolding outsideZ natOf
-ranged lo hi (pos n) e =
-    let p = both-fail (ltb n lo) (ltb hi n) e in
-    record { natural = refl; least = ltb-false n lo (p .0); most = ltb-false hi n (p .1) }
-ranged lo hi (negsuc n) e = let x : _≡_ {A = ℕ} 0 1 = cc in absurd (omega arith)
+ranged lo hi (pos n) e = let p = both-fail _ _ e in record { natural = refl; least = ltb-false n lo (p .0); most = ltb-false hi n (p .1) }
+ranged lo hi (negsuc n) e = absurd (true≢false e)
 
 -- ---- channels
 
@@ -48,7 +47,7 @@ one-of : (a b c : Bool) (n : ℕ) → eqb n 1 ≡ a → eqb n 3 ≡ b → eqb n 
 one-of true b c n p q r e = inl (eqb-true n 1 p)
 one-of false true c n p q r e = inr (inl (eqb-true n 3 q))
 one-of false false true n p q r e = inr (inr (eqb-true n 4 r))
-one-of false false false n p q r e = let x : _≡_ {A = ℕ} 0 1 = cc in absurd (omega arith)
+one-of false false false n p q r e = absurd (false≢true e)
 
 pub record Channelled (z : ℤ) : Type 0 where
   pub natural : z ≡ pos (natOf z)
@@ -56,12 +55,8 @@ pub record Channelled (z : ℤ) : Type 0 where
 
 pub channelled : (z : ℤ) → badChannels z ≡ false → Channelled z
 unfolding badChannels natOf
-channelled (pos n) e =
-    record {
-      natural = refl;
-      kind = one-of (eqb n 1) (eqb n 3) (eqb n 4) n refl refl refl (not-fails (eqb n 1 || eqb n 3 || eqb n 4) e);
-    }
-channelled (negsuc n) e = let x : _≡_ {A = ℕ} 0 1 = cc in absurd (omega arith)
+channelled (pos n) e = record { natural = refl; kind = one-of _ _ _ n refl refl refl (not-false _ e) }
+channelled (negsuc n) e = absurd (true≢false e)
 
 pub channels-most : (n : ℕ) → Channels n → n ≤ 4
 channels-most n (inl e) = omega arith
@@ -83,11 +78,7 @@ pub record Shaped (s : Shape) : Type 0 where
 pub shaped : (s : Shape) → badShape s ≡ false → Shaped s
 unfolding badShape
 shaped s e =
-    let w = outsideZ (pos 0) (pos mostSide) (s .width) in
-    let h = outsideZ (pos 0) (pos mostSide) (s .height) in
-    let p = both-fail (w || h) (badChannels (s .channels)) e in
-    let q = both-fail w h (p .0) in
-    record { wide = ranged 0 mostSide (s .width) (q .0); high = ranged 0 mostSide (s .height) (q .1); deep = channelled (s .channels) (p .1) }
+    let p = all-fail _ _ _ e in record { wide = ranged _ _ _ (p .0); high = ranged _ _ _ (p .1); deep = channelled _ (p .2) }
 
 pub plane-most : {s : Shape} → Shaped s → natOf (s .width) * natOf (s .height) ≤ mostSide * mostSide
 plane-most h = mul-le-mul (h .wide .most) (h .high .most)

@@ -16,4 +16,4 @@ returns-2 c = rw (le-ltb _ _ (c .if1 .left))
 pub arg-spec : {M : Type 1} → statement M
 arg-spec =
     tie.close
-    (tie.spec (λ c. search needs) (λ c. search needs) (λ c. search needs) (λ c. search needs) returns returns-2)
+    (tie.spec (λ c. search needs) (λ c. search needs) returns returns-2)

@@ -1,10 +1,15 @@
 -- `layers::rows_fault` meets its contract. The loop's invariant: the rows passed have no fault, so the first fault is that of the
 -- rows left. The measure is the number of these. Assumes nothing.
-use mathlib.Core.Path.{_≡_, sym, _∙_}
+use mathlib.Core.Path.{_≡_, sym, ap, _∙_}
+use mathlib.Core.List.{List}
 use Prim.Native.Nat.{_-_, _≤_}
 use native.Mathlib.Omega.{arith}
+use lib.IntN.{ℤ}
+use borrow.Author.Needs.{needs}
+use Rattle.layers.specs.Cells.{rowAt}
+use Rattle.layers.specs.Faults.{layerFault}
 use Rattle.layers.specs.Inputs.{rowsFault}
-use Rattle.layers.proofs.Rows.{found, next, done, start}
+use Rattle.layers.proofs.Rows.{found, next, done, none-passed}
 use Rattle.layers.proofs.rows_fault.Statement.{statement}
 use Rattle.layers.proofs.rows_fault.Tie as tie
 
@@ -14,42 +19,29 @@ Inv-loop table layers samples k₀ k = (k ≤ layers) × (rowsFault table sample
 abbrev μ-loop : tie.MeasureT-loop
 μ-loop table layers samples k₀ k = layers - k
 
-loop-holds : tie.Need-loop-holds Inv-loop μ-loop
-loop-holds c = (omega arith, start (c .args .table .now) (c .args .samples) (c .args .layers))
+-- the places: the loop's test, and the start
+abbrev at-loop : tie.After-fault Inv-loop μ-loop → tie.At-loop Inv-loop μ-loop
+at-loop c = c .before .before .before
 
-fault-requires : tie.Need-fault-requires Inv-loop μ-loop
-fault-requires c κs = omega arith
+abbrev start : tie.After-fault Inv-loop μ-loop → tie.Start Inv-loop μ-loop
+start c = at-loop c .before
+
+-- the fault found is that of row k
+asked : (c : tie.After-fault Inv-loop μ-loop) → c .fault .result ≡ layerFault (rowAt (start c .args .table .now) (at-loop c .loop .k)) (start c .args .samples)
+asked c = c .fault .ensures ∙ ap (λ (row : List ℤ). layerFault row (start c .args .samples)) (c .before .row-at .ensures .0)
 
 returns : tie.Need-returns Inv-loop μ-loop
 returns c =
-    let l = c .before .before .before in
-    let a = l .before .args in
-    sym
-    (l .loop .inv .1
-    ∙ found (a .table .now) (a .samples) (l .loop .k) (a .layers) (c .before .fault .result) (c .before .before .loop-test .taken)
-    (c .before .fault .ensures) (c .if1 .taken))
-
-add-k : tie.Need-add-k Inv-loop μ-loop
-add-k c = omega arith
-
-loop-less : tie.Need-loop-less Inv-loop μ-loop
-loop-less c = omega arith
+    let row = c .before in
+    sym (at-loop row .loop .inv .1 ∙ found _ _ (row .before .before .loop-test .taken) (asked row) (c .if1 .taken))
 
 loop-again : tie.Need-loop-again Inv-loop μ-loop
 loop-again c =
-    let l = c .before .before .before in
-    let a = l .before .args in (
-      omega arith,
-      l .loop .inv .1
-          ∙ next (a .table .now) (a .samples) (l .loop .k) (a .layers) (c .before .fault .result) (c .before .before .loop-test .taken)
-          (c .before .fault .ensures) (c .if1 .left),
-    )
+    let row = c .before in
+    (omega arith, at-loop row .loop .inv .1 ∙ next _ _ (row .before .before .loop-test .taken) (asked row) (c .if1 .left))
 
 returns-2 : tie.Need-returns-2 Inv-loop μ-loop
-returns-2 c =
-    let l = c .before in
-    let a = l .before .args in
-    sym (l .loop .inv .1 ∙ done (a .table .now) (a .samples) (l .loop .k) (a .layers) (c .loop-test .left))
+returns-2 c = let test = c .before in sym (test .loop .inv .1 ∙ done _ _ _ _ (c .loop-test .left))
 
 pub rows-fault-spec : {M : Type 1} → statement M
 rows-fault-spec =
@@ -57,10 +49,11 @@ rows-fault-spec =
     (tie.spec
     Inv-loop
     μ-loop
-    loop-holds
-    fault-requires
+    (λ c. (omega arith, none-passed (c .args .table .now) (c .args .samples) (c .args .layers)))
+    (λ c κs. search needs)
+    (λ c κs. search needs)
     returns
-    add-k
-    loop-less
+    (λ c. omega arith)
+    (λ c. omega arith)
     loop-again
     returns-2)

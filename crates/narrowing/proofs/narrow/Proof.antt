@@ -21,18 +21,25 @@ Inv-loop wanted input output₀ channels i₀ output i = Filling step (toZ w64 w
 abbrev μ-loop : tie.MeasureT-loop
 μ-loop wanted input output₀ channels i₀ output i = length output₀ - i
 
+-- the places: where the channels are asked for, and the start
+abbrev asked : tie.At-loop Inv-loop μ-loop → tie.After-accepted-channels Inv-loop μ-loop
+asked c = c .before .before
+
+abbrev start : tie.After-accepted-channels Inv-loop μ-loop → tie.Start Inv-loop μ-loop
+start c = c .before .before .before
+
 returns : tie.Need-returns Inv-loop μ-loop
 returns c =
-    let s = c .before .before .before .before in
-    answer-refused _ _ (s .args .input .now) _ (c .before .accepted-channels .ensures) _ (toZ-ofZ (s .fits .wanted)) (c .if1 .taken)
+    let a = c .before in
+    answer-refused _ _ (start a .args .input .now) _ (a .accepted-channels .ensures) _ (toZ-ofZ (start a .fits .wanted)) (c .if1 .taken)
 
 loop-again : tie.Need-loop-again Inv-loop μ-loop
-loop-again c = one-more step (c .before .before .loop .inv) (c .before .loop-test .taken) (c .narrowed-at .ensures)
+loop-again c = let turn = c .before in one-more step (turn .before .loop .inv) (turn .loop-test .taken) (c .narrowed-at .ensures)
 
 returns-2 : tie.Need-returns-2 Inv-loop μ-loop
 returns-2 c =
-    let s = c .before .before .before .before .before .before in
-    rw map-id at (answer-accepted step (c .before .loop .inv) (toZ-ofZ (s .fits .wanted)) (c .loop-test .left))
+    let end = c .before in
+    rw map-id at (answer-accepted step (end .loop .inv) (toZ-ofZ (start (asked end) .fits .wanted)) (c .loop-test .left))
 
 pub narrow-spec : {M : Type 1} → statement M
 narrow-spec =

@@ -1,5 +1,6 @@
 -- `narrowing::narrow_bytes` meets its contract: a word is written as its byte. The loop's invariant is that of Filling, and the measure the bytes left.
 -- Assumes nothing.
+use mathlib.Core.Path.{ap, _∙_}
 use Prim.Native.Nat.{ℕ, _-_}
 use native.Mathlib.Omega.{arith}
 use lib.ListN.{length}
@@ -22,20 +23,32 @@ Inv-loop wanted input output₀ channels i₀ output i = Filling step (toZ w64 w
 abbrev μ-loop : tie.MeasureT-loop
 μ-loop wanted input output₀ channels i₀ output i = length output₀ - i
 
+-- the places: where the channels are asked for, and the start
+abbrev asked : tie.At-loop Inv-loop μ-loop → tie.After-accepted-channels Inv-loop μ-loop
+asked c = c .before .before
+
+abbrev start : tie.After-accepted-channels Inv-loop μ-loop → tie.Start Inv-loop μ-loop
+start c = c .before .before .before
+
+-- where the word is narrowed
+abbrev at-word : tie.After-byte Inv-loop μ-loop → tie.After-narrowed-at Inv-loop μ-loop
+at-word c = c .before .before
+
 returns : tie.Need-returns Inv-loop μ-loop
 returns c =
-    let s = c .before .before .before .before in
-    answer-refused _ _ (s .args .input .now) _ (c .before .accepted-channels .ensures) _ (toZ-ofZ (s .fits .wanted)) (c .if1 .taken)
+    let a = c .before in
+    answer-refused _ _ (start a .args .input .now) _ (a .accepted-channels .ensures) _ (toZ-ofZ (start a .fits .wanted)) (c .if1 .taken)
 
 loop-again : tie.Need-loop-again Inv-loop μ-loop
 loop-again c =
-    let n = c .before .before in
-    one-more step (n .before .before .loop .inv) (n .before .loop-test .taken) (rw (c .byte .ensures, c .before .value .ensures, n .narrowed-at .ensures))
+    let turn = at-word c .before in
+    one-more step (turn .before .loop .inv) (turn .loop-test .taken)
+    (c .byte .ensures ∙ ap byteOf (c .before .value .ensures ∙ ap valueOf (at-word c .narrowed-at .ensures)))
 
 returns-2 : tie.Need-returns-2 Inv-loop μ-loop
 returns-2 c =
-    let s = c .before .before .before .before .before .before in
-    answer-accepted step (c .before .loop .inv) (toZ-ofZ (s .fits .wanted)) (c .loop-test .left)
+    let end = c .before in
+    answer-accepted step (end .loop .inv) (toZ-ofZ (start (asked end) .fits .wanted)) (c .loop-test .left)
 
 pub narrow-bytes-spec : {M : Type 1} → statement M
 narrow-bytes-spec =
@@ -51,7 +64,7 @@ narrow-bytes-spec =
     (λ c κs. search needs)
     (λ c. search needs)
     (λ c. search needs)
-    (λ c. omega (arith, c .before .before .before .before .loop .inv .same))
+    (λ c. omega (arith, at-word c .before .before .loop .inv .same))
     loop-again
     (λ c. c .before .loop .inv .same)
     returns-2)

@@ -1,76 +1,92 @@
 -- `layers::Layer::fault` meets its contract: the definition's checks are what the calls answered. Assumes nothing.
-use mathlib.Core.Path.{_≡_}
+use mathlib.Core.Path.{_≡_, sym, _∙_}
 use mathlib.Core.List.{List, [], _∷_}
 use Prim.Native.Nat.{ℕ}
 use lib.IntN.{pos}
 use borrow.Author.Needs.{needs}
-use borrow.Author.Tests.{ne-eqb}
 use Rattle.faults.specs.Faults.{PLACING, FLAGS, SOURCE, ARGUMENTS}
 use Rattle.pictures.specs.Shapes.{outsideZ}
 use Rattle.layers.specs.Cells.{cellOf}
 use Rattle.layers.specs.Faults.{firstOf, faultIf, layerFault}
 use Rattle.layers.specs.Limits.{argWords, atCount}
+use Rattle.layers.proofs.Checks.{found, past, found-by, past-by}
 use Rattle.layers.proofs.Layer.fault.Statement.{statement}
 use Rattle.layers.proofs.Layer.fault.Tie as tie
 
-abbrev start : tie.After-outside-at2 → tie.Start
-start c = c .before .before .before .before .before
+-- the places: each call, from the last one back to the start
+abbrev at-source : tie.After-outside-at2 → tie.After-bad-source
+at-source c = c .before
 
--- the last test, as the call answers it
-arguments : (c : tie.After-outside-at2)
-    → c .outside-at2 .result ≡ outsideZ (pos 0) (pos argWords) (cellOf (start c .args .table .now) (start c .args .k) atCount)
-arguments c = c .outside-at2 .ensures
+abbrev at-flags : tie.After-outside-at2 → tie.After-outside-at
+at-flags c = at-source c .before
+
+abbrev at-placing : tie.After-outside-at2 → tie.After-bad-placing
+at-placing c = at-flags c .before
+
+abbrev at-operator : tie.After-outside-at2 → tie.After-operator-fault
+at-operator c = at-placing c .before
+
+abbrev start : tie.After-outside-at2 → tie.Start
+start c = at-operator c .before
 
 -- what the calls answered, in the order of the checks
 abbrev answers : tie.After-outside-at2 → List ℕ
 answers c =
-    c .before .before .before .before .operator-fault .result
-    ∷ faultIf (c .before .before .before .bad-placing .result) PLACING
-    ∷ faultIf (c .before .before .outside-at .result) FLAGS
-    ∷ faultIf (c .before .bad-source .result) SOURCE
+    at-operator c .operator-fault .result
+    ∷ faultIf (at-placing c .bad-placing .result) PLACING
+    ∷ faultIf (at-flags c .outside-at .result) FLAGS
+    ∷ faultIf (at-source c .bad-source .result) SOURCE
     ∷ faultIf (c .outside-at2 .result) ARGUMENTS
     ∷ []
 
-checked : (c : tie.After-outside-at2) → layerFault (start c .args .table .now) (start c .args .samples) (start c .args .k) ≡ firstOf (answers c)
+-- the last test, as the call answers it
+arguments : (c : tie.After-outside-at2) → c .outside-at2 .result ≡ outsideZ (pos 0) (pos argWords) (cellOf (start c .args .row .now) atCount)
+arguments c = c .outside-at2 .ensures
+
+checked : (c : tie.After-outside-at2) → layerFault (start c .args .row .now) (start c .args .samples) ≡ firstOf (answers c)
 unfolding layerFault
 checked c = rw (
-  ← c .before .before .before .before .operator-fault .ensures,
-  ← c .before .before .before .bad-placing .ensures,
-  ← c .before .before .outside-at .ensures,
-  ← c .before .bad-source .ensures,
+  ← at-operator c .operator-fault .ensures,
+  ← at-placing c .bad-placing .ensures,
+  ← at-flags c .outside-at .ensures,
+  ← at-source c .bad-source .ensures,
   ← arguments c,
 )
 
 returns : tie.Need-returns
-returns c = rw (checked (c .before), ne-eqb _ _ (c .if1 .taken))
+returns c = sym (checked (c .before) ∙ found _ (c .if1 .taken))
 
 returns-2 : tie.Need-returns-2
-returns-2 c = rw (checked (c .before .before), c .before .if1 .left, c .if2 .taken)
+returns-2 c = let operator = c .before in sym (checked (operator .before) ∙ past (operator .if1 .left) ∙ found-by _ _ (c .if2 .taken))
 
 returns-3 : tie.Need-returns-3
 returns-3 c =
-    let d = c .before in
-    rw (checked (d .before .before), d .before .if1 .left, d .if2 .left, c .if3 .taken)
+    let placing = c .before in
+    let operator = placing .before in
+    sym (checked (operator .before) ∙ past (operator .if1 .left) ∙ past-by _ (placing .if2 .left) ∙ found-by _ _ (c .if3 .taken))
 
 returns-4 : tie.Need-returns-4
 returns-4 c =
-    let e = c .before in
-    let d = e .before in
-    rw (checked (d .before .before), d .before .if1 .left, d .if2 .left, e .if3 .left, c .if4 .taken)
+    let flags = c .before in
+    let placing = flags .before in
+    let operator = placing .before in
+    sym (checked (operator .before) ∙ past (operator .if1 .left) ∙ past-by _ (placing .if2 .left) ∙ past-by _ (flags .if3 .left) ∙ found-by _ _ (c .if4 .taken))
 
 returns-5 : tie.Need-returns-5
 returns-5 c =
-    let f = c .before in
-    let e = f .before in
-    let d = e .before in
-    rw (checked (d .before .before), d .before .if1 .left, d .if2 .left, e .if3 .left, f .if4 .left, c .if5 .taken)
+    let source = c .before in
+    let flags = source .before in
+    let placing = flags .before in
+    let operator = placing .before in
+    sym (checked (operator .before) ∙ past (operator .if1 .left) ∙ past-by _ (placing .if2 .left) ∙ past-by _ (flags .if3 .left) ∙ past-by _ (source .if4 .left) ∙ found-by _ _ (c .if5 .taken))
 
 returns-6 : tie.Need-returns-6
 returns-6 c =
-    let f = c .before in
-    let e = f .before in
-    let d = e .before in
-    rw (checked (d .before .before), d .before .if1 .left, d .if2 .left, e .if3 .left, f .if4 .left, c .if5 .left)
+    let source = c .before in
+    let flags = source .before in
+    let placing = flags .before in
+    let operator = placing .before in
+    sym (checked (operator .before) ∙ past (operator .if1 .left) ∙ past-by _ (placing .if2 .left) ∙ past-by _ (flags .if3 .left) ∙ past-by _ (source .if4 .left) ∙ past-by _ (c .if5 .left))
 
 pub fault-spec : {M : Type 1} → statement M
 fault-spec =

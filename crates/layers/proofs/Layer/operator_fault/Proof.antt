@@ -1,18 +1,20 @@
 -- `layers::Layer::operator_fault` meets its contract, arm by arm. Assumes nothing.
 use mathlib.Core.Path.{_≡_, sym, ap, _∙_}
-use borrow.Author.Needs.{sfits-of}
-use mir.Facts.{toZ-ofZ}
+use borrow.Author.Needs.{needs}
 use Rattle.operators.specs.Numbers.{opOf}
 use Rattle.layers.specs.Cells.{cellOf}
 use Rattle.layers.specs.Faults.{opFault}
 use Rattle.layers.specs.Limits.{atOperator}
-use borrow.Author.Needs.{needs}
+use Rattle.layers.proofs.Numbers.{answered}
 use Rattle.layers.proofs.Layer.operator_fault.Statement.{statement}
 use Rattle.layers.proofs.Layer.operator_fault.Tie as tie
 
+abbrev start : tie.After-from-number → tie.Start
+start c = c .before .before
+
 -- what the row's operator names
-named : (c : tie.After-from-number) → c .from-number .result ≡ opOf (cellOf (c .before .before .args .table .now) (c .before .before .args .k) atOperator)
-named c = c .from-number .ensures ∙ ap opOf (toZ-ofZ (sfits-of (c .before .cell .ok)) ∙ c .before .cell .ensures)
+named : (c : tie.After-from-number) → c .from-number .result ≡ opOf (cellOf (start c .args .row .now) atOperator)
+named c = let read = c .before .cell in c .from-number .ensures ∙ ap opOf (answered (read .ok) (read .ensures))
 
 returns : tie.Need-returns
 returns c = ap opFault (sym (c .enum-told .given .1) ∙ named (c .before .before))

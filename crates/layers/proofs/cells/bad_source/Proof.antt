@@ -11,7 +11,7 @@ use Rattle.pictures.specs.declared.Shape.{Shape}
 use Rattle.pictures.specs.Shapes.{natOf, badShape, sampleCount}
 use Rattle.pictures.proofs.Ranges.{shaped, samples-most}
 use Rattle.layers.specs.Cells.{cellOf}
-use Rattle.layers.specs.Faults.{shapeAt, badSource}
+use Rattle.layers.specs.Faults.{sourceShape, badSource}
 use Rattle.layers.specs.Limits.{atFirst}
 use Rattle.layers.proofs.Numbers.{answered, answered-small}
 use Rattle.layers.proofs.cells.bad_source.Statement.{statement}
@@ -19,10 +19,10 @@ use Rattle.layers.proofs.cells.bad_source.Tie as tie
 
 -- the source's start and its shape
 abbrev from : tie.Start → ℤ
-from s = cellOf (s .args .table .now) (s .args .k) atFirst
+from s = cellOf (s .args .row .now) atFirst
 
 abbrev shape : tie.Start → Shape
-shape s = shapeAt (s .args .table .now) (s .args .k)
+shape s = sourceShape (s .args .row .now)
 
 -- the places: where the start is found not negative, and where the shape is found in its range
 abbrev begun : tie.After-bad-shape → tie.Else1
@@ -41,7 +41,7 @@ not-negative : (c : tie.Else1) → ltZ (from (c .before .before)) (pos 0) ≡ fa
 not-negative c = ap (λ (z : ℤ). ltZ z (pos 0)) (sym (first (c .before))) ∙ c .if1 .left
 
 tested : (c : tie.After-bad-shape) → c .bad-shape .result ≡ badShape (shape (start c))
-tested c = c .bad-shape .ensures ∙ ap badShape (c .before .shape-at .ensures)
+tested c = c .bad-shape .ensures ∙ ap badShape (c .before .source-shape .ensures)
 
 in-range : (c : tie.Else2) → badShape (shape (start (c .before))) ≡ false
 in-range c = sym (tested (c .before)) ∙ c .if2 .left
@@ -50,7 +50,7 @@ begins : (c : tie.After-natural) → c .natural .result ≡ natOf (from (start (
 begins c = c .natural .ensures ∙ ap natOf (first (begun (c .before .before) .before))
 
 samples : (c : tie.After-sample-count) → c .sample-count .result ≡ sampleCount (shape (start (fit c .before)))
-samples c = c .sample-count .ensures ∙ ap sampleCount (fit c .before .before .shape-at .ensures)
+samples c = c .sample-count .ensures ∙ ap sampleCount (fit c .before .before .source-shape .ensures)
 
 returns : tie.Need-returns
 unfolding badSource

@@ -1,8 +1,0 @@
--- `layers::Args::at` meets its contract, word by word: each field is what its call ensures. Assumes nothing.
-use borrow.Author.Needs.{needs}
-use Rattle.layers.proofs.Args.at.Statement.{statement}
-use Rattle.layers.proofs.Args.at.Tie as tie
-
-pub at-spec : {M : Type 1} → statement M
-at-spec =
-    tie.close (tie.spec (λ c κs. search needs) (λ c κs. search needs) (λ c κs. search needs) (λ c κs. search needs) (λ c. cc))

@@ -1,0 +1,8 @@
+-- `layers::Source::of` meets its contract, column by column: each field is what its call ensures. Assumes nothing.
+use borrow.Author.Needs.{needs}
+use Rattle.layers.proofs.Source.of.Statement.{statement}
+use Rattle.layers.proofs.Source.of.Tie as tie
+
+pub of-spec : {M : Type 1} → statement M
+of-spec =
+    tie.close (tie.spec (λ c κs. search needs) (λ c κs. search needs) (λ c κs. search needs) (λ c κs. search needs) (λ c. cc))
