@@ -1,18 +1,14 @@
-// The numbers of a layer's row, and the words of its arguments. The contracts cite specs/Cells and specs/Faults.
+// The rows of the layer table and their numbers, and the words of a layer's arguments. The contracts cite specs/Cells.
 ghost use mathlib.Core.Path.{_≡_};
 ghost use Prim.Native.Nat.{_+_, _*_, _<_, _≤_};
 ghost use lib.ListN.{length};
 ghost use Rattle.lent.specs.Lent.{before};
 ghost use Rattle.pictures.specs.Shapes.{natOf, outsideZ};
 ghost use Rattle.layers.specs.Cells.{rowAt, wordsAt, cellOf};
-ghost use Rattle.layers.specs.Faults.{sourceShape, badSource};
 ghost use Rattle.layers.specs.Limits.{columns, argWords};
 use crate::Layer;
-use pictures::Shape;
-use pictures::shapes::bad_shape;
 use pictures::shapes::natural;
 use pictures::shapes::outside;
-use pictures::shapes::sample_count;
 
 // Row k of the layer table.
 pub fn row_at(table: &[i64], k: usize) -> &[i64]
@@ -52,32 +48,4 @@ pub fn outside_at(row: &[i64], column: usize, lo: i64, hi: i64) -> bool
     ensures { λ r. ⌜ r ≡ outsideZ lo hi (cellOf (before row) column) ⌝ }
 {
     outside(cell(row, column), lo, hi)
-}
-
-// The shape of the source, as a row gives it.
-fn source_shape(row: &[i64]) -> Shape
-    requires { ⌜ length (now row) ≡ columns ⌝ }
-    ensures { λ r. ⌜ r ≡ sourceShape (before row) ⌝ }
-{
-    Shape {
-        width: cell(row, Layer::AT_WIDTH),
-        height: cell(row, Layer::AT_HEIGHT),
-        channels: cell(row, Layer::AT_CHANNELS),
-    }
-}
-
-// Whether the source of a row is none, or does not lie in so many samples.
-pub fn bad_source(row: &[i64], samples: usize) -> bool
-    requires { ⌜ length (now row) ≡ columns ⌝ }
-    ensures { λ r. ⌜ r ≡ badSource (before row) samples ⌝ }
-{
-    let first = cell(row, Layer::AT_FIRST);
-    if first < 0 {
-        return true;
-    }
-    let shape = source_shape(row);
-    if bad_shape(shape) {
-        return true;
-    }
-    samples < natural(first) + sample_count(shape)
 }

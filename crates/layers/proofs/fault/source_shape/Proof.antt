@@ -1,8 +1,8 @@
--- `layers::cells::source_shape` meets its contract, column by column: each field is what its call ensures. Assumes nothing.
+-- `layers::fault::source_shape` meets its contract, column by column: each field is what its call ensures. Assumes nothing.
 use borrow.Author.Needs.{needs}
 use Rattle.layers.proofs.Numbers.{answered}
-use Rattle.layers.proofs.cells.source_shape.Statement.{statement}
-use Rattle.layers.proofs.cells.source_shape.Tie as tie
+use Rattle.layers.proofs.fault.source_shape.Statement.{statement}
+use Rattle.layers.proofs.fault.source_shape.Tie as tie
 
 returns : tie.Need-returns
 returns c =

@@ -1,8 +1,8 @@
--- `layers::Layer::bad_placing` meets its contract: its tests are the definition's, in turn. Assumes nothing.
+-- `layers::fault::bad_placing` meets its contract: its tests are the definition's, in turn. Assumes nothing.
 use borrow.Author.Needs.{needs}
 use Rattle.layers.specs.Faults.{badPlacing}
-use Rattle.layers.proofs.Layer.bad_placing.Statement.{statement}
-use Rattle.layers.proofs.Layer.bad_placing.Tie as tie
+use Rattle.layers.proofs.fault.bad_placing.Statement.{statement}
+use Rattle.layers.proofs.fault.bad_placing.Tie as tie
 
 returns : tie.Need-returns
 unfolding badPlacing

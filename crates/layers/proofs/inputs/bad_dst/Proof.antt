@@ -1,9 +1,9 @@
--- `layers::bad_dst` meets its contract: its tests are the definition's, in turn. Assumes nothing.
+-- `layers::inputs::bad_dst` meets its contract: its tests are the definition's, in turn. Assumes nothing.
 use mathlib.Core.Path.{sym, _∙_}
 use borrow.Author.Needs.{needs}
 use Rattle.layers.specs.Inputs.{badDst}
-use Rattle.layers.proofs.bad_dst.Statement.{statement}
-use Rattle.layers.proofs.bad_dst.Tie as tie
+use Rattle.layers.proofs.inputs.bad_dst.Statement.{statement}
+use Rattle.layers.proofs.inputs.bad_dst.Tie as tie
 
 returns : tie.Need-returns
 unfolding badDst

@@ -1,4 +1,4 @@
--- `layers::check` meets its contract: STACK and TRAY, then the rows. Assumes nothing.
+-- `layers::inputs::check` meets its contract: STACK and TRAY, then the rows. Assumes nothing.
 use mathlib.Core.Path.{_≡_, sym, _∙_}
 use mathlib.Core.Bool.{false}
 use native.Mathlib.Omega.{arith}
@@ -8,8 +8,8 @@ use borrow.Author.Needs.{needs}
 use Rattle.pictures.specs.Shapes.{natOf}
 use Rattle.layers.specs.Inputs.{badStack, jobFault}
 use Rattle.layers.proofs.Accepted.{stacked}
-use Rattle.layers.proofs.check.Statement.{statement}
-use Rattle.layers.proofs.check.Tie as tie
+use Rattle.layers.proofs.inputs.check.Statement.{statement}
+use Rattle.layers.proofs.inputs.check.Tie as tie
 
 -- the places: the start, and where the stack is found without a fault
 abbrev start : tie.After-bad-stack → tie.Start

@@ -1,9 +1,9 @@
--- `layers::arg` meets its contract. Assumes nothing.
+-- `layers::decode::arg` meets its contract. Assumes nothing.
 use borrow.Author.Tests.{lt-ltb, le-ltb}
 use Rattle.layers.specs.Layers.{argOf}
 use borrow.Author.Needs.{needs}
-use Rattle.layers.proofs.arg.Statement.{statement}
-use Rattle.layers.proofs.arg.Tie as tie
+use Rattle.layers.proofs.decode.arg.Statement.{statement}
+use Rattle.layers.proofs.decode.arg.Tie as tie
 
 returns : tie.Need-returns
 unfolding argOf

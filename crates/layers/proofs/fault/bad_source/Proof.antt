@@ -1,4 +1,4 @@
--- `layers::cells::bad_source` meets its contract: a start below 2^63 and a shape in its range make a sum that fits. Assumes nothing.
+-- `layers::fault::bad_source` meets its contract: a start below 2^63 and a shape in its range make a sum that fits. Assumes nothing.
 use mathlib.Core.Path.{_≡_, sym, ap, _∙_}
 use mathlib.Core.Bool.{false}
 use native.Mathlib.Omega.{arith}
@@ -14,8 +14,8 @@ use Rattle.layers.specs.Cells.{cellOf}
 use Rattle.layers.specs.Faults.{sourceShape, badSource}
 use Rattle.layers.specs.Limits.{atFirst}
 use Rattle.layers.proofs.Numbers.{answered, answered-small}
-use Rattle.layers.proofs.cells.bad_source.Statement.{statement}
-use Rattle.layers.proofs.cells.bad_source.Tie as tie
+use Rattle.layers.proofs.fault.bad_source.Statement.{statement}
+use Rattle.layers.proofs.fault.bad_source.Tie as tie
 
 -- the source's start and its shape
 abbrev from : tie.Start → ℤ

@@ -1,4 +1,4 @@
--- `layers::bad_stack` meets its contract: a count in its range makes products that fit. Assumes nothing.
+-- `layers::inputs::bad_stack` meets its contract: a count in its range makes products that fit. Assumes nothing.
 use mathlib.Core.Path.{_≡_, sym, _∙_}
 use mathlib.Core.Bool.{false}
 use native.Mathlib.Omega.{arith}
@@ -10,8 +10,8 @@ use Rattle.pictures.specs.Shapes.{natOf, outsideZ}
 use Rattle.pictures.proofs.Ranges.{ranged}
 use Rattle.layers.specs.Inputs.{badStack}
 use Rattle.layers.specs.Limits.{mostLayers}
-use Rattle.layers.proofs.bad_stack.Statement.{statement}
-use Rattle.layers.proofs.bad_stack.Tie as tie
+use Rattle.layers.proofs.inputs.bad_stack.Statement.{statement}
+use Rattle.layers.proofs.inputs.bad_stack.Tie as tie
 
 -- the places: where the count is found in its range, and the start
 abbrev counted : tie.After-natural → tie.Else1

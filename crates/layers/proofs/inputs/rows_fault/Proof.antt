@@ -1,4 +1,4 @@
--- `layers::rows_fault` meets its contract. The loop's invariant: the rows passed have no fault, so the first fault is that of the
+-- `layers::inputs::rows_fault` meets its contract. The loop's invariant: the rows passed have no fault, so the first fault is that of the
 -- rows left. The measure is the number of these. Assumes nothing.
 use mathlib.Core.Path.{_≡_, sym, ap, _∙_}
 use mathlib.Core.List.{List}
@@ -10,8 +10,8 @@ use Rattle.layers.specs.Cells.{rowAt}
 use Rattle.layers.specs.Faults.{layerFault}
 use Rattle.layers.specs.Inputs.{rowsFault}
 use Rattle.layers.proofs.Rows.{found, next, done, none-passed}
-use Rattle.layers.proofs.rows_fault.Statement.{statement}
-use Rattle.layers.proofs.rows_fault.Tie as tie
+use Rattle.layers.proofs.inputs.rows_fault.Statement.{statement}
+use Rattle.layers.proofs.inputs.rows_fault.Tie as tie
 
 abbrev Inv-loop : tie.InvT-loop
 Inv-loop table layers samples k₀ k = (k ≤ layers) × (rowsFault table samples 0 layers ≡ rowsFault table samples k (layers - k))

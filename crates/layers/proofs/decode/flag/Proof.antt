@@ -1,9 +1,9 @@
--- `layers::flag` meets its contract. Assumes nothing.
+-- `layers::decode::flag` meets its contract. Assumes nothing.
 use mathlib.Core.Path.{refl}
 use Rattle.layers.specs.Layers.{flagged}
 use borrow.Author.Needs.{needs}
-use Rattle.layers.proofs.flag.Statement.{statement}
-use Rattle.layers.proofs.flag.Tie as tie
+use Rattle.layers.proofs.decode.flag.Statement.{statement}
+use Rattle.layers.proofs.decode.flag.Tie as tie
 
 returns : tie.Need-returns
 unfolding flagged

@@ -1,4 +1,4 @@
--- `layers::Layer::operator_fault` meets its contract, arm by arm. Assumes nothing.
+-- `layers::fault::operator_fault` meets its contract, arm by arm. Assumes nothing.
 use mathlib.Core.Path.{_≡_, sym, ap, _∙_}
 use borrow.Author.Needs.{needs}
 use Rattle.operators.specs.Numbers.{opOf}
@@ -6,8 +6,8 @@ use Rattle.layers.specs.Cells.{cellOf}
 use Rattle.layers.specs.Faults.{opFault}
 use Rattle.layers.specs.Limits.{atOperator}
 use Rattle.layers.proofs.Numbers.{answered}
-use Rattle.layers.proofs.Layer.operator_fault.Statement.{statement}
-use Rattle.layers.proofs.Layer.operator_fault.Tie as tie
+use Rattle.layers.proofs.fault.operator_fault.Statement.{statement}
+use Rattle.layers.proofs.fault.operator_fault.Tie as tie
 
 abbrev start : tie.After-from-number → tie.Start
 start c = c .before .before
