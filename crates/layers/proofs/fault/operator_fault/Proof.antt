@@ -16,15 +16,6 @@ start c = c .before .before
 named : (c : tie.After-from-number) → c .from-number .result ≡ opOf (cellOf (start c .args .row .now) atOperator)
 named c = let read = c .before .cell in c .from-number .ensures ∙ ap opOf (answered (read .ok) (read .ensures))
 
-returns : tie.Need-returns
-returns c = ap opFault (sym (c .enum-told .given .1) ∙ named (c .before .before))
-
-returns-2 : tie.Need-returns-2
-returns-2 c = ap opFault (sym (c .enum-told2 .given .1) ∙ named (c .before .before))
-
-returns-3 : tie.Need-returns-3
-returns-3 c = ap opFault (sym (c .enum-told3 .given .1) ∙ named (c .before .before))
-
 pub operator-fault-spec : {M : Type 1} → statement M
 operator-fault-spec =
     tie.close
@@ -34,6 +25,6 @@ operator-fault-spec =
     (λ c. search needs)
     (λ c. search needs)
     (λ c. search needs)
-    returns
-    returns-2
-    returns-3)
+    (λ c. ap opFault (sym (c .enum-told .given .1) ∙ named (c .before .before)))
+    (λ c. ap opFault (sym (c .enum-told2 .given .1) ∙ named (c .before .before)))
+    (λ c. ap opFault (sym (c .enum-told3 .given .1) ∙ named (c .before .before))))

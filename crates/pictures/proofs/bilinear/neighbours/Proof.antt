@@ -4,7 +4,10 @@ use Rattle.pictures.proofs.bilinear.neighbours.Statement.{statement}
 use Rattle.pictures.proofs.bilinear.neighbours.Tie as tie
 
 returns : tie.Need-returns
-returns c = rw (c .channels-at4 .ensures, c .before .channels-at3 .ensures, c .before .before .channels-at2 .ensures, c .before .before .before .channels-at .ensures)
+returns c =
+    let third = c .before in
+    let second = third .before in
+    rw (c .channels-at4 .ensures, third .channels-at3 .ensures, second .channels-at2 .ensures, second .before .channels-at .ensures)
 
 pub neighbours-spec : {M : Type 1} → statement M
 neighbours-spec =

@@ -19,41 +19,44 @@ Inv-loop picture channels from count out₀ i₀ out i =
 abbrev μ-loop : tie.MeasureT-loop
 μ-loop picture channels from count out₀ i₀ out i = count - i
 
+-- the places: the loop's test, and the start
+abbrev at-loop : tie.After-put-arg Inv-loop μ-loop → tie.At-loop Inv-loop μ-loop
+at-loop c = c .before .before
+
+abbrev start : tie.At-loop Inv-loop μ-loop → tie.Start Inv-loop μ-loop
+start c = c .before .before .before
+
 loop-holds : tie.Need-loop-holds Inv-loop μ-loop
 unfolding flat
 loop-holds c = (omega arith, refl, refl)
 
 add-rgba-at : tie.Need-add-rgba-at Inv-loop μ-loop
 add-rgba-at c =
-    let a = c .before .before .before .before .before in
-    record { fits = omega (arith, pixels-words (a .args .channels) (a .args .from + a .args .count) (a .pre .0)) }
+    let s = start (at-loop c) in
+    record { fits = omega (arith, pixels-words (s .args .channels) (s .args .from + s .args .count) (s .pre .0)) }
 
 rgba-at-requires : tie.Need-rgba-at-requires Inv-loop μ-loop
 rgba-at-requires c κs =
-    let a = c .before .before .before .before .before in
-    (a .pre .0, a .pre .1, omega (arith, words-within (a .args .channels) (a .args .from + c .before .before .loop .i) (a .args .from + a .args .count) (omega arith)))
-
-put-requires : tie.Need-put-requires Inv-loop μ-loop
-put-requires c κs = omega (arith, c .before .before .before .loop .inv .2)
-
-loop-less : tie.Need-loop-less Inv-loop μ-loop
-loop-less c = omega arith
+    let s = start (at-loop c) in
+    (s .pre .0, s .pre .1, omega (arith, words-within (s .args .channels) (s .args .from + at-loop c .loop .i) (s .args .from + s .args .count) (omega arith)))
 
 loop-again : tie.Need-loop-again Inv-loop μ-loop
 loop-again c =
-    let w = c .before .before in
-    let l = w .before .before .before .before .loop in
-    let a = w .before .before .before .before .before .before .before .args in (
+    let put = c .before .before in
+    let pixel = put .before in
+    let test = at-loop (pixel .before) in (
       omega arith,
-      w .put .ensures ∙ ap (λ o. putOf o (l .i) (w .before .rgba-at .result)) (l .inv .1) ∙ filled-more _ (l .i) (a .out .now) _ (omega arith) (w .before .rgba-at .ensures),
-      w .put .kept .0 ∙ l .inv .2,
+      put .put .ensures
+          ∙ ap (λ o. putOf o (test .loop .i) (pixel .rgba-at .result)) (test .loop .inv .1)
+          ∙ filled-more _ (test .loop .i) (start test .args .out .now) _ (omega arith) (pixel .rgba-at .ensures),
+      put .put .kept .0 ∙ test .loop .inv .2,
     )
 
-same-length : tie.Need-same-length Inv-loop μ-loop
-same-length c = c .before .loop .inv .2
-
 returns : tie.Need-returns Inv-loop μ-loop
-returns c = let e : c .before .loop .i ≡ c .before .before .before .before .args .count = omega arith in rw (← e) (c .before .loop .inv .1)
+returns c =
+    let test = c .before in
+    let e : test .loop .i ≡ start test .args .count = omega arith in
+    rw (← e) (test .loop .inv .1)
 
 pub widen-spec : {M : Type 1} → statement M
 widen-spec =
@@ -64,9 +67,9 @@ widen-spec =
     loop-holds
     add-rgba-at
     rgba-at-requires
-    put-requires
+    (λ c κs. omega (arith, at-loop (c .before) .loop .inv .2))
     (λ c. search needs)
-    loop-less
+    (λ c. omega arith)
     loop-again
-    same-length
+    (λ c. c .before .loop .inv .2)
     returns)

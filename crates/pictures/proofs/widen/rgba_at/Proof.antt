@@ -13,11 +13,11 @@ returns c = c .four-at .ensures ∙ yes _ _ (eq-eqb _ _ (c .before .if1 .taken))
 
 returns-2 : tie.Need-returns-2
 unfolding rgbaAt
-returns-2 c = c .three-at .ensures ∙ yes _ _ (eq-eqb _ _ (c .before .if2 .taken)) ∙ no _ _ (ne-eqb _ _ (c .before .before .if1 .left))
+returns-2 c = let three = c .before in c .three-at .ensures ∙ yes _ _ (eq-eqb _ _ (three .if2 .taken)) ∙ no _ _ (ne-eqb _ _ (three .before .if1 .left))
 
 returns-3 : tie.Need-returns-3
 unfolding rgbaAt
-returns-3 c = c .one-at .ensures ∙ no _ _ (ne-eqb _ _ (c .before .if2 .left)) ∙ no _ _ (ne-eqb _ _ (c .before .before .if1 .left))
+returns-3 c = let one = c .before in c .one-at .ensures ∙ no _ _ (ne-eqb _ _ (one .if2 .left)) ∙ no _ _ (ne-eqb _ _ (one .before .if1 .left))
 
 pub rgba-at-spec : {M : Type 1} → statement M
 rgba-at-spec =
