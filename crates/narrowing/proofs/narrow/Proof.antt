@@ -31,7 +31,7 @@ start c = c .before .before .before
 returns : tie.Need-returns Inv-loop μ-loop
 returns c =
     let a = c .before in
-    answer-refused _ _ (start a .args .input .now) _ (a .accepted-channels .ensures) _ (toZ-ofZ (start a .fits .wanted)) (c .if1 .taken)
+    answer-refused _ _ (start a .args .input .now) _ (a .accepted-channels .ensures) _ (search needs) (c .if1 .taken)
 
 loop-again : tie.Need-loop-again Inv-loop μ-loop
 loop-again c = let turn = c .before in one-more step (turn .before .loop .inv) (turn .loop-test .taken) (c .narrowed-at .ensures)

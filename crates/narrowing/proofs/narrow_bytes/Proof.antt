@@ -4,7 +4,6 @@ use mathlib.Core.Path.{ap, _∙_}
 use Prim.Native.Nat.{ℕ, _-_}
 use native.Mathlib.Omega.{arith}
 use lib.ListN.{length}
-use mir.Facts.{toZ-ofZ}
 use mir.Syntax.{w64}
 use mir.Val.{toZ}
 use borrow.Author.Needs.{needs}
@@ -23,21 +22,17 @@ Inv-loop wanted input output₀ channels i₀ output i = Filling step (toZ w64 w
 abbrev μ-loop : tie.MeasureT-loop
 μ-loop wanted input output₀ channels i₀ output i = length output₀ - i
 
--- the places: where the channels are asked for, and the start
-abbrev asked : tie.At-loop Inv-loop μ-loop → tie.After-accepted-channels Inv-loop μ-loop
-asked c = c .before .before
-
+-- the places: the start, and where the word is narrowed
 abbrev start : tie.After-accepted-channels Inv-loop μ-loop → tie.Start Inv-loop μ-loop
 start c = c .before .before .before
 
--- where the word is narrowed
 abbrev at-word : tie.After-byte Inv-loop μ-loop → tie.After-narrowed-at Inv-loop μ-loop
 at-word c = c .before .before
 
 returns : tie.Need-returns Inv-loop μ-loop
 returns c =
     let a = c .before in
-    answer-refused _ _ (start a .args .input .now) _ (a .accepted-channels .ensures) _ (toZ-ofZ (start a .fits .wanted)) (c .if1 .taken)
+    answer-refused _ _ (start a .args .input .now) _ (a .accepted-channels .ensures) _ (search needs) (c .if1 .taken)
 
 loop-again : tie.Need-loop-again Inv-loop μ-loop
 loop-again c =
@@ -46,9 +41,7 @@ loop-again c =
     (c .byte .ensures ∙ ap byteOf (c .before .value .ensures ∙ ap valueOf (at-word c .narrowed-at .ensures)))
 
 returns-2 : tie.Need-returns-2 Inv-loop μ-loop
-returns-2 c =
-    let end = c .before in
-    answer-accepted step (end .loop .inv) (toZ-ofZ (start (asked end) .fits .wanted)) (c .loop-test .left)
+returns-2 c = answer-accepted step (c .before .loop .inv) (search needs) (c .loop-test .left)
 
 pub narrow-bytes-spec : {M : Type 1} → statement M
 narrow-bytes-spec =

@@ -43,12 +43,6 @@ returns c =
     rw (c .word .ensures, luma .luma .ensures, values .values .ensures, pixel .rgba-at .ensures)
     (gray-word _ (a .input .now) (a .i) (gray .if1 .taken) (omega (arith, one gray)))
 
-mul-kept : tie.Need-mul-kept
-mul-kept c = record { fits = omega (arith, three c) }
-
-add-kept : tie.Need-add-kept
-add-kept c = record { fits = omega (arith, three c) }
-
 returns-2 : tie.Need-returns-2
 returns-2 c =
     let colours = c .before in
@@ -69,8 +63,8 @@ narrowed-at-spec =
     (λ c κs. search needs)
     (λ c κs. search needs)
     returns
-    mul-kept
-    add-kept
+    (λ c. record { fits = omega (arith, three c) })
+    (λ c. record { fits = omega (arith, three c) })
     (λ c κs. omega (arith, three c))
     returns-2
     (λ c κs. omega (arith, four c))
