@@ -6,7 +6,7 @@ use Prim.Native.Nat.{ℕ, _*_}
 use lib.Dec.{eqb}
 use lib.ListN.{length}
 use Rattle.faults.specs.Faults.{NONE, WORK}
-use Rattle.layers.specs.Cells.{natOf}
+use Rattle.pictures.specs.Shapes.{natOf}
 use Rattle.layers.specs.Inputs.{Inputs, jobFault}
 use Rattle.layers.specs.Layers.{layerAt}
 use Rattle.compose.specs.Compose.{composedOf}
@@ -22,11 +22,11 @@ composed number output = record { number = number; output = output }
 -- the picture of the inputs' first layer on their destination
 abbrev pub outputOf : Inputs → List ℕ
 outputOf i =
-    composedOf (i .samples) (layerAt (i .table) (i .args) 0) (natOf (i .width)) (natOf (i .height)) (natOf (i .channels)) (i .dst)
+    composedOf (i .samples) (layerAt (i .table) (i .args) 0) (natOf (i .shape .width)) (natOf (i .shape .height)) (natOf (i .shape .channels)) (i .dst)
 
 -- refused under the number of the first fault, with the output as it was; else the picture
 unfoldable pub composeOf : Inputs → List ℕ → Composed
 composeOf i out =
     cond (eqb (jobFault i .number) NONE)
-    (cond (eqb (length out) (4 * (natOf (i .width) * natOf (i .height)))) (composed NONE (outputOf i)) (composed WORK out))
+    (cond (eqb (length out) (4 * (natOf (i .shape .width) * natOf (i .shape .height)))) (composed NONE (outputOf i)) (composed WORK out))
     (composed (jobFault i .number) out)

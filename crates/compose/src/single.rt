@@ -20,9 +20,12 @@ use crate::run::run;
 use crate::source::source_of;
 use faults::Fault;
 use layers::Layer;
-use layers::cells::natural;
 use layers::check;
+use pictures::Shape;
 use pictures::flat::widen;
+use pictures::shapes::channels_of;
+use pictures::shapes::height_of;
+use pictures::shapes::width_of;
 
 // Pixels from .. from + count, at the front of out: their own pixels are widened into a buffer first.
 fn widened_span(
@@ -92,31 +95,27 @@ fn whole(
 
 // One layer on one destination: 0 and the whole picture in out, or the number of the first fault and out as it was.
 pub fn compose(
-    width: i64,
-    height: i64,
-    channels: i64,
+    shape: Shape,
     dst: &[u32],
     table: &[i64],
     args: &[u32],
     samples: &[u32],
     out: &mut [u32],
 ) -> u64
-    ensures { λ r. ⌜
-        composed r (after out) ≡ composeOf (inputs width height channels dst (pos 1) table args samples) (before out)
-        ⌝ }
+    ensures { λ r. ⌜ composed r (after out) ≡ composeOf (inputs shape dst (pos 1) table args samples) (before out) ⌝ }
 {
-    let v = check(width, height, channels, dst, 1, table, args, samples);
+    let v = check(shape, dst, 1, table, args, samples);
     let number = v.number;
     if number != Fault::NONE {
         return number;
     }
-    let dw = natural(width);
-    let dh = natural(height);
+    let dw = width_of(shape);
+    let dh = height_of(shape);
     let size = 4 * (dw * dh);
     if out.len() != size {
         return Fault::WORK;
     }
-    let depth = natural(channels);
+    let depth = channels_of(shape);
     whole(Layer::at(table, args, 0), dw, dh, depth, dst, samples, out);
     Fault::NONE
 }

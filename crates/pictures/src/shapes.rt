@@ -59,13 +59,32 @@ pub fn bad_shape(shape: Shape) -> bool
     bad_channels(shape.channels)
 }
 
+// A shape's numbers as unsigned ones.
+pub fn width_of(shape: Shape) -> usize
+    ensures { λ r. ⌜ r ≡ natOf (shape .width) ⌝ }
+{
+    natural(shape.width)
+}
+
+pub fn height_of(shape: Shape) -> usize
+    ensures { λ r. ⌜ r ≡ natOf (shape .height) ⌝ }
+{
+    natural(shape.height)
+}
+
+pub fn channels_of(shape: Shape) -> usize
+    ensures { λ r. ⌜ r ≡ natOf (shape .channels) ⌝ }
+{
+    natural(shape.channels)
+}
+
 // The samples of a picture whose shape is in its range.
 pub fn sample_count(shape: Shape) -> usize
     requires { ⌜ badShape shape ≡ false ⌝ }
     ensures { λ r. ⌜ r ≡ sampleCount shape ⌝ }
 {
-    let w = natural(shape.width);
-    let h = natural(shape.height);
-    let c = natural(shape.channels);
+    let w = width_of(shape);
+    let h = height_of(shape);
+    let c = channels_of(shape);
     w * h * c
 }

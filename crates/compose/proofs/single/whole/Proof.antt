@@ -1,7 +1,7 @@
 -- `compose::single::whole` meets its contract: the part that is lent is the source, and the plan is the layer's. Assumes nothing.
 use borrow.Author.Needs.{needs}
 use Rattle.layers.proofs.Accepted.{measured}
-use Rattle.layers.proofs.Ranges.{channels-least, channels-most}
+use Rattle.pictures.proofs.Ranges.{channels-least, channels-most}
 use Rattle.compose.proofs.Placed.{whole-span, picture}
 use Rattle.compose.proofs.single.whole.Statement.{statement}
 use Rattle.compose.proofs.single.whole.Tie as tie

@@ -12,7 +12,7 @@ use Rattle.layers.specs.Cells.{natOf}
 use Rattle.layers.specs.GoodLayers.{GoodLayer}
 use Rattle.layers.specs.Inputs.{Inputs}
 use Rattle.layers.proofs.Accepted.{Accepted, accepted, row-held, words-held, measured, destination}
-use Rattle.layers.proofs.Ranges.{channels-least, channels-most}
+use Rattle.pictures.proofs.Ranges.{channels-least, channels-most}
 use Rattle.compose.specs.Ready.{Ready, Run}
 use Rattle.job.specs.Job.{pixelCount, layerCount}
 use Rattle.job.specs.Uses.{inputsBy}

@@ -2,32 +2,31 @@
 use mathlib.Core.Path.{_≡_, ap₂}
 use Prim.Native.Nat.{_*_}
 use native.Mathlib.Omega.{arith}
-use mir.Facts.{toZ-ofZ}
-use borrow.Author.Needs.{needs, sfits-of}
+use borrow.Author.Needs.{needs}
 use Rattle.pictures.specs.Shapes.{natOf, sampleCount}
 use Rattle.pictures.proofs.Ranges.{Shaped, shaped, plane-most, samples-most}
 use Rattle.pictures.proofs.shapes.sample_count.Statement.{statement}
 use Rattle.pictures.proofs.shapes.sample_count.Tie as tie
 
--- the places: where the width and the height are read, and the start
-abbrev at-width : tie.After-natural3 → tie.After-natural
-at-width c = c .before .before .before .before
+-- the places: where the height and the width are known, and the start
+abbrev high : tie.After-channels-of → tie.After-height-of
+high c = c .before
 
-abbrev at-height : tie.After-natural3 → tie.After-natural2
-at-height c = c .before .before
+abbrev wide : tie.After-channels-of → tie.After-width-of
+wide c = high c .before
 
-abbrev start : tie.After-natural3 → tie.Start
-start c = at-width c .before .before
+abbrev start : tie.After-channels-of → tie.Start
+start c = wide c .before
 
-plane : (c : tie.After-natural3) → at-width c .natural .result * at-height c .natural2 .result ≡ natOf (start c .args .shape .width) * natOf (start c .args .shape .height)
-plane c =
-    let told = at-width c .before .struct-told .given in
-    ap₂ _*_ (rw (toZ-ofZ (sfits-of (told .0 .1))) at (at-width c .natural .ensures)) (rw (toZ-ofZ (sfits-of (told .1 .0 .1))) at (at-height c .natural2 .ensures))
+plane : (c : tie.After-channels-of)
+    → let s = start c .args .shape in wide c .width-of .result * high c .height-of .result ≡ natOf (s .width) * natOf (s .height)
+plane c = ap₂ _*_ (wide c .width-of .ensures) (high c .height-of .ensures)
 
-samples : (c : tie.After-natural3) → at-width c .natural .result * at-height c .natural2 .result * c .natural3 .result ≡ sampleCount (start c .args .shape)
-samples c = ap₂ _*_ (plane c) (rw (toZ-ofZ (sfits-of (c .before .struct-told3 .given .1 .1 .0 .1))) at (c .natural3 .ensures))
+samples : (c : tie.After-channels-of)
+    → wide c .width-of .result * high c .height-of .result * c .channels-of .result ≡ sampleCount (start c .args .shape)
+samples c = ap₂ _*_ (plane c) (c .channels-of .ensures)
 
-shape : (c : tie.After-natural3) → Shaped (start c .args .shape)
+shape : (c : tie.After-channels-of) → Shaped (start c .args .shape)
 shape c = shaped _ (start c .pre)
 
 mul-result : tie.Need-mul-result
