@@ -1,9 +1,8 @@
 // Runs of pixels: the one loop of composition. The single composition and the job both come here, so that the operators' match has one call site.
 ghost use mathlib.Core.Path.{_≡_};
-ghost use Prim.Native.Nat.{_+_, _*_, _/_, _%_, _<_, _≤_, min};
+ghost use Prim.Native.Nat.{_+_, _*_, _≤_, min};
 ghost use lib.ListN.{length};
 ghost use Rattle.lent.specs.Lent.{before, after};
-ghost use Rattle.places.specs.Bounds.{slack};
 ghost use Rattle.pictures.specs.Widen.{rgbaAt};
 ghost use Rattle.pictures.specs.FlatWords.{filled};
 ghost use Rattle.pictures.specs.Bilinear.{valuesAt};
@@ -26,27 +25,6 @@ pub fn min(a: usize, b: usize) -> usize
         return a;
     }
     b
-}
-
-// The column and the row of the next pixel, row by row, without a division.
-fn column_after(x: usize, dw: usize) -> usize
-    requires { ⌜ x < dw ⌝ }
-    ensures { λ r. ⌜ r ≡ (x + 1) % dw ⌝ }
-{
-    if x + 1 == dw {
-        return 0;
-    }
-    x + 1
-}
-
-fn row_after(x: usize, y: usize, dw: usize) -> usize
-    requires { ⌜ (x < dw) × (y ≤ slack) ⌝ }
-    ensures { λ r. ⌜ r ≡ y + (x + 1) / dw ⌝ }
-{
-    if x + 1 == dw {
-        return y + 1;
-    }
-    y
 }
 
 // Pixels from .. from + count of the result, at the front of out. Their own pixels beneath are the first of `beneath`; a map reads the whole picture, and
@@ -83,9 +61,12 @@ pub fn run(
     while i < count {
         let own = rgba_at(beneath, 4, i);
         put(out, i, composed(p, source, picture, channels, own, x, y));
-        y = row_after(x, y, dw);
-        x = column_after(x, dw);
         i += 1;
+        x += 1;
+        if x == dw {
+            x = 0;
+            y += 1;
+        }
     }
 }
 

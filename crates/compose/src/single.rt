@@ -27,33 +27,7 @@ use pictures::shapes::channels_of;
 use pictures::shapes::height_of;
 use pictures::shapes::width_of;
 
-// Pixels from .. from + count, at the front of out: their own pixels are widened into a buffer first.
-fn widened_span(
-    p: Plan,
-    source: &[u32],
-    dst: &[u32],
-    channels: usize,
-    from: usize,
-    count: usize,
-    out: &mut [u32],
-)
-    requires { ⌜
-        (Ready p (length (now source)))
-        × (Span p (length (now dst)) channels from count)
-        × (count ≤ 128)
-        × (4 * count ≤ length (now out))
-        ⌝ }
-    ensures { λ _. ⌜
-        after out
-        ≡ filled (λ i. pixelOn p (before source) (rgbaAt (before dst) channels) (from + i)) count (before out)
-        ⌝ }
-{
-    let mut own = [0u32; 4 * SPAN];
-    widen(dst, channels, from, count, &mut own);
-    run(p, source, dst, channels, &own, from, count, out);
-}
-
-// The whole picture, span by span.
+// The whole picture, span by span: their own pixels are widened into a buffer first.
 fn spans(p: Plan, source: &[u32], dst: &[u32], channels: usize, total: usize, out: &mut [u32])
     requires { ⌜
         (Ready p (length (now source)))
@@ -62,11 +36,13 @@ fn spans(p: Plan, source: &[u32], dst: &[u32], channels: usize, total: usize, ou
         ⌝ }
     ensures { λ _. ⌜ after out ≡ flat (pixelOn p (before source) (rgbaAt (before dst) channels)) 0 total ⌝ }
 {
+    let mut own = [0u32; 4 * SPAN];
     let mut j = 0;
     while j < total {
         let count = min(SPAN, total - j);
         let at = 4 * j;
-        widened_span(p, source, dst, channels, j, count, &mut out[at..]);
+        widen(dst, channels, j, count, &mut own);
+        run(p, source, dst, channels, &own, j, count, &mut out[at..]);
         j += count;
     }
 }
@@ -111,11 +87,10 @@ pub fn compose(
     }
     let dw = width_of(shape);
     let dh = height_of(shape);
-    let size = 4 * (dw * dh);
-    if out.len() != size {
+    let depth = channels_of(shape);
+    if out.len() != 4 * (dw * dh) {
         return Fault::WORK;
     }
-    let depth = channels_of(shape);
     whole(Layer::at(table, args, 0), dw, dh, depth, dst, samples, out);
     Fault::NONE
 }

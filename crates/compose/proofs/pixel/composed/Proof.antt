@@ -1,7 +1,7 @@
 -- `compose::pixel::composed` meets its contract. Assumes nothing.
 use Rattle.float_steps.proofs.Choice.{yes, no}
 use Rattle.compose.specs.Plans.{composedBy}
-use Rattle.compose.proofs.Pixels.{reached, index-held}
+use Rattle.compose.proofs.Pixels.{index-held}
 use borrow.Author.Needs.{needs}
 use Rattle.compose.proofs.pixel.composed.Statement.{statement}
 use Rattle.compose.proofs.pixel.composed.Tie as tie
@@ -15,9 +15,6 @@ abbrev writes : tie.After-written → tie.Then1
 writes c = c .before .before .before .before
 
 -- ---- the needs
-
-source-index-requires : tie.Need-source-index-requires
-source-index-requires c κs = let s = c .before .before in reached (s .pre .0) (s .pre .1)
 
 source-pixel-requires : tie.Need-source-pixel-requires
 source-pixel-requires c κs = let i = c .before .before in (start i .pre .0, index-held _ _ _ _ _ _ _ (i .source-index .ensures))
@@ -37,7 +34,7 @@ pub composed-spec : {M : Type 1} → statement M
 composed-spec =
     tie.close
     (tie.spec
-    source-index-requires
+    (λ c κs. search needs)
     (λ c κs. search needs)
     source-pixel-requires
     (λ c κs. search needs)

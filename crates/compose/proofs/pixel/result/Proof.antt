@@ -4,9 +4,6 @@ use borrow.Author.Needs.{needs}
 use Rattle.compose.proofs.pixel.result.Statement.{statement}
 use Rattle.compose.proofs.pixel.result.Tie as tie
 
-mapped-requires : tie.Need-mapped-requires
-mapped-requires c κs = let s = c .before .before in (s .pre .picture (c .if1 .taken), s .pre .column, s .pre .row)
-
 returns : tie.Need-returns
 unfolding resultBy
 returns c = rw (c .before .if1 .taken) (c .mapped .ensures)
@@ -16,4 +13,4 @@ unfolding resultBy
 returns-2 c = rw (c .before .if1 .left) (c .painted .ensures)
 
 pub result-spec : {M : Type 1} → statement M
-result-spec = tie.close (tie.spec mapped-requires returns (λ c κs. search needs) returns-2)
+result-spec = tie.close (tie.spec (λ c κs. (c .before .before .pre .picture (c .if1 .taken), search needs, search needs)) returns (λ c κs. search needs) returns-2)

@@ -11,15 +11,6 @@ rgba-at-requires c κs =
     let r = s .pre .0 in
     (r .some, r .most, rw (r .whole) (words-inside _ _ _ (rw (c .before .index .given .1) at (s .pre .1))))
 
-returns : tie.Need-returns
-unfolding sourcePixel
-returns c = rw (c .before .before .before .index .given .1, c .values .ensures, c .before .rgba-at .ensures)
-
-returns-2 : tie.Need-returns-2
-unfolding sourcePixel
-returns-2 c = rw (c .enum-told .given .1)
-
 pub source-pixel-spec : {M : Type 1} → statement M
-source-pixel-spec =
-    tie.close
-    (tie.spec (λ c. search needs) rgba-at-requires (λ c κs. search needs) (λ c. search needs) returns returns-2)
+unfolding sourcePixel
+source-pixel-spec = tie.close (tie.spec (λ c. search needs) rgba-at-requires (λ c κs. search needs) (λ c. search needs) (λ c. rw (c .before .before .before .index .given .1, c .values .ensures, c .before .rgba-at .ensures)) (λ c. rw (c .enum-told .given .1)))

@@ -4,9 +4,6 @@ use borrow.Author.Needs.{needs}
 use Rattle.compose.proofs.pixel.written.Statement.{statement}
 use Rattle.compose.proofs.pixel.written.Tie as tie
 
-returns : tie.Need-returns
-unfolding writtenOf
-returns c = cc
-
 pub written-spec : {M : Type 1} → statement M
-written-spec = tie.close (tie.spec (λ c κs. search needs) (λ c κs. search needs) (λ c κs. search needs) (λ c κs. search needs) returns)
+unfolding writtenOf
+written-spec = tie.close (tie.spec (λ c κs. search needs) (λ c κs. search needs) (λ c κs. search needs) (λ c κs. search needs) (λ c. cc))

@@ -1,7 +1,7 @@
 -- `compose::run::run` meets its contract. The loop's invariant: the first i pixels of out are composed, and the rest is as it was; x and y are the
 -- column and the row of the next. The measure is the pixels left. Assumes nothing.
 use mathlib.Core.Path.{_≡_, refl, _∙_}
-use Prim.Native.Nat.{_≤_, _-_, _+_, _/_, _%_}
+use Prim.Native.Nat.{ℕ, _≤_, _-_, _+_, _/_, _%_}
 use native.Mathlib.Nat.{add-zero}
 use native.Mathlib.Omega.{arith}
 use borrow.Author.Needs.{needs}
@@ -12,7 +12,7 @@ use Rattle.pictures.specs.Bilinear.{valuesAt}
 use Rattle.compose.specs.Plans.{pixelsFrom}
 use Rattle.compose.specs.Ready.{Beneath}
 use Rattle.compose.proofs.Parts.{put-more}
-use Rattle.compose.proofs.Pixels.{at-run, next}
+use Rattle.compose.proofs.Pixels.{at-run, wraps, steps}
 use Rattle.compose.proofs.run.run.Statement.{statement}
 use Rattle.compose.proofs.run.run.Tie as tie
 
@@ -29,58 +29,55 @@ abbrev μ-loop : tie.MeasureT-loop
 
 -- ---- places of the code
 
-abbrev start : tie.Else1 Inv-loop μ-loop → tie.Start Inv-loop μ-loop
-start c = c .before .before .before .before .before
+abbrev start : tie.At-loop Inv-loop μ-loop → tie.Start Inv-loop μ-loop
+start c = c .before .before .before .before .before .before
 
 abbrev pass : tie.After-composed Inv-loop μ-loop → tie.In-loop Inv-loop μ-loop
 pass c = c .before .before .before
 
-abbrev written : tie.After-row-after Inv-loop μ-loop → tie.After-put Inv-loop μ-loop
-written c = c .before .before .before
+abbrev written : tie.After-slice-known2 Inv-loop μ-loop → tie.After-put Inv-loop μ-loop
+written c = c .before .before
 
 -- ---- the needs
 
 -- a run that has a pixel has columns
-wide : (c : tie.Else1 Inv-loop μ-loop) → 1 ≤ start c .args .p .dw
-wide c = omega (arith, at-run 0 (start c .pre .1) (omega arith) .column)
-
--- the next pixel
-pixel : (c : tie.In-loop Inv-loop μ-loop) → let l = c .before in let a = start (l .before) .args in Beneath (a .p) (length (a .picture .now)) (a .channels) (l .loop .x) (l .loop .y)
-pixel c = let l = c .before in rw (l .loop .inv .3, l .loop .inv .4) (at-run (l .loop .i) (start (l .before) .pre .1) (c .loop-test .taken))
-
-returns : tie.Need-returns Inv-loop μ-loop
-unfolding flat
-returns c = rw (c .if1 .taken)
+wide : (c : tie.Else1 Inv-loop μ-loop) → 1 ≤ c .before .before .before .before .before .args .p .dw
+wide c = omega (arith, at-run 0 (c .before .before .before .before .before .pre .1) (omega arith) refl refl .column)
 
 loop-holds : tie.Need-loop-holds Inv-loop μ-loop
 unfolding flat
 loop-holds c = (omega arith, refl, refl, rw add-zero, rw add-zero)
 
-put-requires : tie.Need-put-requires Inv-loop μ-loop
-put-requires c κs = let l = pass c .before in omega (arith, l .loop .inv .2, start (l .before) .pre .3)
+-- the next pixel
+pixel : (c : tie.In-loop Inv-loop μ-loop) → let l = c .before in let a = start l .args in Beneath (a .p) (length (a .picture .now)) (a .channels) (l .loop .x) (l .loop .y)
+pixel c = let l = c .before in at-run (l .loop .i) (start l .pre .1) (c .loop-test .taken) (l .loop .inv .3) (l .loop .inv .4)
 
-row-after-requires : tie.Need-row-after-requires Inv-loop μ-loop
-row-after-requires c κs = let b = pixel (pass (c .before .before .before)) in (b .column, omega (arith, b .row, b .height))
+-- .. is written, and x and y are those of the one after it
+again : (c : tie.After-put Inv-loop μ-loop) (x y : ℕ) → let l = pass (c .before) .before in let a = start l .args in
+    (x ≡ (a .from + (l .loop .i + 1)) % a .p .dw) × (y ≡ (a .from + (l .loop .i + 1)) / a .p .dw)
+    → Inv-loop (a .p) (a .source .now) (a .picture .now) (a .channels) (a .beneath .now) (a .from) (a .count) (a .out .now) 0 0 0 0 (c .put .last .0) x y (l .loop .i + 1)
+again c x y n =
+    let t = pass (c .before) in
+    let v = t .before .loop .inv in
+    (omega (arith, t .loop-test .taken), c .put .ensures ∙ put-more _ _ _ (v .1) (omega (arith, t .loop-test .taken, start (t .before) .pre .3)) (cc), c .put .kept .0 ∙ v .2, n .0, n .1)
 
 loop-again : tie.Need-loop-again Inv-loop μ-loop
-loop-again c =
+loop-again c = let w = written (c .before) in let v = pass (w .before) .before .loop .inv in again w _ _ (wraps _ _ _ (v .3) (v .4) (c .if2 .taken))
+
+loop-again-2 : tie.Need-loop-again-2 Inv-loop μ-loop
+loop-again-2 c =
     let w = written (c .before) in
-    let l = pass (w .before) .before in
-    let s = start (l .before) in
-    let v = l .loop .inv in
-    let n = next (s .args .p .dw) (s .args .from) (l .loop .i) (wide (l .before)) (v .3) (v .4) in
-    let own = w .before .before .before in (
-      omega arith,
-      w .put .ensures ∙ put-more _ _ _ (v .1) (omega (arith, s .pre .3)) (cc),
-      w .put .kept .0 ∙ v .2,
-      c .column-after .ensures ∙ n .0,
-      c .before .row-after .ensures ∙ n .1,
-    )
+    let v = pass (w .before) .before .loop .inv in
+    again w _ _ (steps _ _ _ (v .3) (v .4) (omega (arith, pixel (pass (w .before)) .column, c .if2 .left)))
+
+returns : tie.Need-returns Inv-loop μ-loop
+unfolding flat
+returns c = rw (c .if1 .taken)
 
 returns-2 : tie.Need-returns-2 Inv-loop μ-loop
 returns-2 c =
     let l = c .before in
-    let e : l .loop .i ≡ start (l .before) .args .count = omega arith in
+    let e : l .loop .i ≡ start l .args .count = omega arith in
     rw (← e) (l .loop .inv .1)
 
 pub run-spec : {M : Type 1} → statement M
@@ -93,13 +90,15 @@ run-spec =
     wide
     wide
     loop-holds
-    (λ c κs. (omega arith, omega arith, omega (arith, start (c .before .before) .pre .2)))
-    (λ c κs. let t = c .before .before in (start (t .before .before) .pre .0, pixel t))
-    put-requires
-    row-after-requires
-    (λ c κs. pixel (pass (written c .before)) .column)
+    (λ c κs. (omega arith, omega arith, omega (arith, start (c .before) .pre .2)))
+    (λ c κs. let t = c .before .before in (start (t .before) .pre .0, pixel t))
+    (λ c κs. let l = pass c .before in omega (arith, l .loop .inv .2, start l .pre .3))
     (λ c. search needs)
+    (λ c. let b = pixel (pass (written c .before)) in omega (arith, b .column, b .width))
+    (λ c. let b = pixel (pass (written (c .before) .before)) in omega (arith, b .row, b .height))
     (λ c. omega arith)
     loop-again
+    (λ c. omega arith)
+    loop-again-2
     (λ c. c .before .loop .inv .2)
     returns-2)

@@ -2,7 +2,6 @@
 use mathlib.Core.Path.{_∙_}
 use Rattle.pictures.specs.Widen.{rgbaAt}
 use Rattle.compose.proofs.Parts.{rest-at, own-beneath}
-use Rattle.compose.proofs.Pixels.{lent}
 use borrow.Author.Needs.{needs}
 use Rattle.compose.proofs.run.span.Statement.{statement}
 use Rattle.compose.proofs.run.span.Tie as tie
@@ -17,9 +16,6 @@ composed c = c .before .before
 
 -- ---- the needs
 
-run-requires : tie.Need-run-requires
-run-requires c κs = let s = start c in (s .pre .0, lent (s .pre .1), search needs, s .pre .2)
-
 returns : tie.Need-returns
 returns c =
     let a = start (composed c .before) .args in
@@ -28,4 +24,4 @@ returns c =
 pub span-spec : {M : Type 1} → statement M
 span-spec =
     tie.close
-    (tie.spec (λ c. search needs) (λ c. search needs) (λ c. search needs) (λ c. search needs) (λ c. search needs) run-requires (λ c. search needs) returns)
+    (tie.spec (λ c. search needs) (λ c. search needs) (λ c. search needs) (λ c. search needs) (λ c. search needs) (λ c κs. search needs) (λ c. search needs) returns)
