@@ -11,9 +11,9 @@ import text
 
 # The items of each file but for its imports.
 ITEMS = {
-    "crates/job/src/lib.rt": "pub mod call; mod writes; mod fill; mod pixel; mod store; pub enum Write; pub struct Extent; pub struct Answer",
+    "crates/job/src/lib.rt": "pub mod call; mod writes; mod fill; mod pixel; mod store; enum Write; struct Extent; pub struct Answer",
     "crates/job/src/call.rt": "fn memory_fault; fn fault; fn acceptance; fn accepted; pub fn run",
-    "crates/job/src/writes.rt": "const SPAN; pub fn writes",
+    "crates/job/src/writes.rt": "const WRITES; pub fn writes",
     "crates/job/src/fill.rt": "pub fn fill",
     "crates/job/src/pixel.rt": "fn write_of; fn pixel; pub fn write_out",
     "crates/job/src/store.rt": "pub fn store",
@@ -24,12 +24,12 @@ ITEMS = {
 CALLS = {
     "tray_job": "job::call::run flag",
     "run": "fault accepted",
-    "accepted": "natural natural natural natural min writes acceptance",
+    "accepted": "width_of height_of natural channels_of min writes acceptance",
     "writes": "while min min fill write_out",
     "write_out": "while pixel pixel",
     "pixel": "while write_of store",
     "store": "match",
-    "fault": "check natural natural natural memory_fault",
+    "fault": "check width_of height_of natural memory_fault",
     "memory_fault": ".len .len .len",
     "fill": "widen Layer::at plan source_of span span",
     "tray_from_name": "match names::from_name Named::Operator",
@@ -48,9 +48,9 @@ BODIES = {
             Write::Checkpoint { position } => { checkpoint[0] = position; *uses += 1; }
         }""",
     "accepted": """
-        let w = natural(width); let h = natural(height); let layers = natural(count);
+        let w = width_of(shape); let h = height_of(shape); let layers = natural(count);
         let end = (layers + 1) * (w * h); let start = checkpoint[0] as usize; let left = 5 * (end - start);
-        let extent = Extent { width: w, height: h, channels: natural(channels), layers, start, due: min(allowance as usize, left), };
+        let extent = Extent { width: w, height: h, channels: channels_of(shape), layers, start, due: min(allowance as usize, left), };
         let mut uses = 0u64;
         writes(extent, dst, table, args, samples, work0, work1, checkpoint, &mut uses,);
         acceptance(uses, checkpoint[0], end as u64)""",
@@ -59,7 +59,7 @@ BODIES = {
 LISTS = {"work0": "[ u32 ]", "work1": "[ u32 ]", "checkpoint": "[ u64 ]"}
 INPUTS = {"dst": "& [ u32 ]", "table": "& [ i64 ]", "args": "& [ u32 ]", "samples": "& [ u32 ]"}
 TYPES = INPUTS | {"extent": "Extent", "uses": "& mut u64", "out": "& mut [ u32 ]"}
-NUMBERS = ("width", "height", "channels", "count", "allowance")
+NUMBERS = ("shape", "count", "allowance")
 # The arguments that have not their parameter's name, by function and parameter.
 GIVEN = {"run count": "layers", "writes uses": "& mut uses", "acceptance stores": "uses", "fill count": "( n + 4 ) / 5", "fill out": "& mut buf"}
 # How a body reads a list, the extent and the count. The functions of other crates that write do so into the last argument; READS_LAST reads it.

@@ -15,7 +15,7 @@ TOKEN = re.compile(
 MOVES_THE_END = re.compile(r"//|--|[\"«⟦]")
 # An item, up to the brace that opens its block; of a function what stands before it, its name and its parameters. No result is a reference.
 ITEM = re.compile(
-    r"ghost |use \w+(?: :: \w+)+ ; |(?:pub )?mod \w+ ; |const \w+ : usize = \w+ ; |pub (?:enum|struct) \w+ (?=\{)"
+    r"ghost |use \w+(?: :: \w+)+ ; |(?:pub )?mod \w+ ; |const \w+ : usize = (?:\w+ \* )?\w+ ; |(?:pub )?(?:enum|struct) \w+ (?=\{)"
     r"|(# \[ no_mangle \] pub extern \"C\" |pub |)fn (\w+) \( ([^()]*)\) (?:-> \w+ )?(?:requires )?(?:ensures )?(?=\{)"
 )
 CALL = re.compile(r"(?<!\S)(?!(?:if|while|return|match) \()((?:\. )?\w+(?: :: \w+)*) \( ")

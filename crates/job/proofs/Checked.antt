@@ -1,38 +1,45 @@
 -- What a call without a fault has of its inputs and its memory, and that this is what its writes ask. Assumes nothing.
-use mathlib.Core.Path.{_≡_, refl, sym, _∙_}
+use mathlib.Core.Path.{_≡_, refl}
 use mathlib.Core.Bool.{Bool, true, false, cond}
-use Prim.Native.Nat.{ℕ, zero, suc, _+_, _-_, _*_, _/_, _<_, _≤_}
-use native.Mathlib.Nat.{mul-le-mul, mul-zero, not-suc-le-zero, div-lt-iff-lt-mul}
+use mathlib.Core.Logic.{⊎-elim}
+use Prim.Native.Nat.{ℕ, zero, suc, _+_, _*_, _<_, _≤_}
+use native.Mathlib.Nat.{add-zero, zero-add, mul-le-mul, mul-zero, not-suc-le-zero, mod-lt, div-lt-iff-lt-mul, eq-zero-or-pos}
 use native.Mathlib.Omega.{arith}
 use lib.Dec.{eqb, ltb}
 use lib.ListN.{length}
 use borrow.Author.Tests.{eq-eqb, ne-eqb, eqb-true, ltb-false, le-ltb}
 use Rattle.places.specs.Bounds.{slack}
 use Rattle.layers.specs.declared.Verdict.{Verdict}
-use Rattle.layers.specs.Cells.{natOf}
+use Rattle.pictures.specs.Shapes.{natOf}
 use Rattle.layers.specs.Inputs.{Inputs, verdict, jobFault}
-use Rattle.layers.proofs.Accepted.{accepted}
+use Rattle.layers.proofs.Accepted.{accepted, destination}
 use Rattle.job.specs.declared.Extent.{Extent}
 use Rattle.job.specs.Memory.{Mem, positionOf}
-use Rattle.job.specs.Job.{pixelCount, layerCount, endOf, memoryFault, callFault, acceptance, refusal}
-use Rattle.job.specs.Call.{runOf, madeOf, acceptedOf, callOf}
-use Rattle.job.specs.Uses.{inputsBy}
-use Rattle.job.specs.Steps.{Sized, Midway}
+use Rattle.job.specs.Job.{pixelCount, layerCount, phaseAt, pixelAt, endOf, memoryFault, callFault, acceptance, refusal}
+use Rattle.job.specs.Call.{madeOf, outcome, acceptedOf, callOf}
+use Rattle.job.specs.Steps.{Sized, Batch, batchOf, Midway, Ran}
+use Rattle.job.specs.Uses.{batchBy}
 
 -- ---- the faults
 
 -- a fault of the inputs, and one of the memory
-pub inputs-fault : (i : Inputs) (m : Mem) (v : Verdict) → v ≡ jobFault i → (v .number ≡ 0 → ⊥) → v ≡ callFault i m
-unfolding callFault
-inputs-fault i m v e h = rw (← e, ne-eqb (v .number) 0 h)
+module _ (i : Inputs) (m : Mem) {v : Verdict} (found : v ≡ jobFault i) where
+  pub inputs-fault : (v .number ≡ 0 → ⊥) → v ≡ callFault i m
+  unfolding callFault
+  inputs-fault h = rw (← found, ne-eqb (v .number) 0 h)
 
-pub memory-fault : (i : Inputs) (m : Mem) (v : Verdict) (f : ℕ) → v ≡ jobFault i → v .number ≡ 0 → f ≡ memoryFault (pixelCount i) (endOf i) m → verdict f 0 ≡ callFault i m
-unfolding callFault
-memory-fault i m v f e h g = rw (← e, eq-eqb (v .number) 0 h, g)
+  pub memory-fault : {f w h n : ℕ} → v .number ≡ 0 → w ≡ natOf (i .shape .width) → h ≡ natOf (i .shape .height) → n ≡ natOf (i .count)
+      → f ≡ memoryFault (w * h) ((n + 1) * (w * h)) m → verdict f 0 ≡ callFault i m
+  unfolding callFault
+  memory-fault e ew eh en g = rw (← found, eq-eqb (v .number) 0 e, g, ew, eh, en)
 
-none-by : (t : Bool) (v : Verdict) (f : ℕ) → eqb (v .number) 0 ≡ t → cond t (verdict f 0) v .number ≡ 0 → (v .number ≡ 0) × (f ≡ 0)
-none-by true v f e h = (eqb-true (v .number) 0 e, h)
-none-by false v f e h = let x : true ≡ false = sym (eq-eqb (v .number) 0 h) ∙ e in let y : _≡_ {A = ℕ} 0 1 = cc in absurd (omega arith)
+-- no fault of a call is none of its inputs and none of its memory
+neither : (v : Verdict) (f : ℕ) → cond (eqb (v .number) 0) (verdict f 0) v .number ≡ 0 → (v .number ≡ 0) × (f ≡ 0)
+neither v f h =
+    ⊎-elim
+    (λ e. (e, rw (eq-eqb (v .number) 0 e) at h))
+    (λ l. let e = rw (ne-eqb (v .number) 0 (omega arith)) at h in absurd (omega arith))
+    (eq-zero-or-pos (v .number))
 
 cond-zero : (b : Bool) (x n : ℕ) → cond b x (suc n) ≡ 0 → (b ≡ true) × (x ≡ 0)
 cond-zero true x n e = (refl, e)
@@ -59,71 +66,76 @@ pos-right : (a b : ℕ) → 0 < a * b → 0 < b
 pos-right a zero h = absurd (not-suc-le-zero (rw mul-zero at h))
 pos-right a (suc b) h = omega arith
 
--- a position before the end is one of a job that has pixels, and lies in one of its phases
+-- a position before the end is one of a job that has pixels, and of one of its phases
 module _ (i : Inputs) (p : ℕ) (room : p < endOf i) where
   pub some-pixel : 0 < pixelCount i
   some-pixel = pos-right (layerCount i + 1) (pixelCount i) (omega arith)
 
-  pub phase-within : p / pixelCount i ≤ layerCount i
-  phase-within = let k : p / pixelCount i < layerCount i + 1 = div-lt-iff-lt-mul some-pixel .1 room in omega arith
+  pub phase-within : phaseAt i p ≤ layerCount i
+  phase-within = let k : phaseAt i p < layerCount i + 1 = div-lt-iff-lt-mul some-pixel .1 room in omega arith
 
-module _ (i : Inputs) (e : jobFault i .number ≡ 0) where
-  pub pixels-small : pixelCount i ≤ slack * slack
-  pixels-small = let a = accepted i e in mul-le-mul (a .shape .wide .most) (a .shape .high .most)
+  pub pixel-within : pixelAt i p < pixelCount i
+  pixel-within = mod-lt p some-pixel
 
-  -- a thousand layers would still fit
-  pub layers-small : layerCount i + 1 ≤ 1024
-  layers-small = omega (arith, accepted i e .count .most)
+-- bounds of a job's sides and layers; a thousand layers would still fit
+pub record Bounded (w h n : ℕ) : Type 0 where
+  pub pixels : w * h ≤ slack * slack
+  pub layers : n + 1 ≤ 1024
+  pub end : (n + 1) * (w * h) ≤ 1024 * (slack * slack)
 
-  pub end-small : endOf i ≤ 1024 * (slack * slack)
-  end-small = mul-le-mul layers-small pixels-small
+pub bounded : (i : Inputs) → jobFault i .number ≡ 0 → {w h n : ℕ} → w ≡ natOf (i .shape .width) → h ≡ natOf (i .shape .height) → n ≡ natOf (i .count) → Bounded w h n
+bounded i e ew eh en =
+    let a = accepted i e in
+    let d = destination i a in
+    let pixels : pixelCount i ≤ slack * slack = mul-le-mul (d .width) (d .height) in
+    let layers : layerCount i + 1 ≤ 1024 = omega (arith, a .count .most) in
+    rw (ew, eh, en) record { pixels = pixels; layers = layers; end = mul-le-mul layers pixels }
+
+pub end-is : (i : Inputs) {w h n : ℕ} → w ≡ natOf (i .shape .width) → h ≡ natOf (i .shape .height) → n ≡ natOf (i .count) → (n + 1) * (w * h) ≡ endOf i
+end-is i ew eh en = rw (ew, eh, en)
 
 -- ---- a call without a fault
 
 module _ (i : Inputs) (m : Mem) (e : callFault i m .number ≡ 0) where
   pub call-inputs : jobFault i .number ≡ 0
   unfolding callFault
-  call-inputs = none-by (eqb (jobFault i .number) 0) (jobFault i) _ refl e .0
-
-  call-memory : Sized i m × (positionOf m ≤ endOf i)
-  unfolding callFault
-  call-memory = memory-none i m (none-by (eqb (jobFault i .number) 0) (jobFault i) _ refl e .1)
+  call-inputs = neither (jobFault i) _ e .0
 
   -- it has made none of its writes
-  pub call-midway : (due : ℕ) → due ≤ 5 * (endOf i - positionOf m) → Midway i (positionOf m) due 0 m
-  call-midway due l =
-      let h = call-memory in
-      record { fit = call-inputs; sized = h .0; position = omega arith; within = omega (arith, h .1) }
+  pub call-midway : (allowance : ℕ) → Midway (batchOf i allowance m) 0 m
+  unfolding callFault
+  call-midway allowance =
+      let h = memory-none i m (neither (jobFault i) _ e .1) in
+      omega (arith, call-inputs)
 
--- and the other way
-pub midway-call : {i : Inputs} {p : ℕ} {m : Mem} → Midway i p 0 0 m → callFault i m .number ≡ 0
+-- a call has no fault on what another leaves
+pub midway-call : {b : Batch} {uses : ℕ} {m : Mem} → Midway b uses m → uses ≤ b .due → callFault (b .inputs) m .number ≡ 0
 unfolding callFault memoryFault
-midway-call {i} {p} {m} h =
-    let z = h .sized in
-    let w : positionOf m ≤ endOf i = omega (arith, h .position, h .within) in
-    simp (eq-eqb _ _ (h .fit), eq-eqb _ _ (z .works .length0), eq-eqb _ _ (z .works .length1), eq-eqb _ _ (z .checkpoint), le-ltb (endOf i) (positionOf m) w)
+midway-call {b} {uses} {m} h l =
+    let w : positionOf m ≤ endOf (b .inputs) = omega arith in
+    search (eq-eqb, le-ltb)
 
--- the inputs again, from their natural numbers
-pub inputs-natural : (i : Inputs) → jobFault i .number ≡ 0 → (e : Extent) → e .width ≡ natOf (i .width) → e .height ≡ natOf (i .height) → e .channels ≡ natOf (i .channels) → e .layers ≡ natOf (i .count)
-    → inputsBy e (i .dst) (i .table) (i .args) (i .samples) ≡ i
-inputs-natural i f e ew eh ec en =
+-- its writes, from the natural numbers of its inputs
+pub batch-is : (i : Inputs) (allowance : ℕ) (m : Mem) → jobFault i .number ≡ 0 → (e : Extent)
+    → e .width ≡ natOf (i .shape .width) → e .height ≡ natOf (i .shape .height) → e .channels ≡ natOf (i .shape .channels) → e .layers ≡ natOf (i .count)
+    → e .start ≡ positionOf m → e .due ≡ madeOf i allowance m
+    → batchBy e (i .dst) (i .table) (i .args) (i .samples) ≡ batchOf i allowance m
+batch-is i n m f e ew eh ec el es ed =
     let a = accepted i f in
-    rw (ew, eh, ec, en, ← (a .shape .wide .natural), ← (a .shape .high .natural), ← (a .shape .deep .natural), ← (a .count .natural))
-
-pub end-is : (i : Inputs) {w h n : ℕ} → w ≡ natOf (i .width) → h ≡ natOf (i .height) → n ≡ natOf (i .count) → (n + 1) * (w * h) ≡ endOf i
-end-is i ew eh en = rw (ew, eh, en)
+    rw (ew, eh, ec, el, es, ed, ← (a .shape .wide .natural), ← (a .shape .high .natural), ← (a .shape .deep .natural), ← (a .count .natural))
 
 -- ---- the outcome
 
-pub call-accepted : {i′ : Inputs} {m′ : Mem} {uses : ℕ} (i : Inputs) (allowance : ℕ) (m : Mem) → i′ ≡ i → uses ≡ madeOf i allowance m → m′ ≡ runOf i′ (5 * positionOf m) uses m
-    → record { mem = m′; answer = acceptance uses (eqb (positionOf m′) (endOf i)) } ≡ acceptedOf i allowance m
-unfolding acceptedOf
-call-accepted i allowance m s e f = rw (f, s, e)
+module _ (i : Inputs) (allowance : ℕ) (m : Mem) where
+  pub call-accepted : {b : Batch} {uses : ℕ} {m′ : Mem} → b ≡ batchOf i allowance m → Ran b 0 (b .due) uses m m′
+      → outcome m′ (acceptance uses (eqb (positionOf m′) (endOf i))) ≡ acceptedOf i allowance m
+  unfolding acceptedOf
+  call-accepted s f = rw (f .memory, f .count, s, add-zero, zero-add)
 
-pub call-refused : (i : Inputs) (allowance : ℕ) (m : Mem) (v : Verdict) → v ≡ callFault i m → (v .number ≡ 0 → ⊥) → record { mem = m; answer = refusal v } ≡ callOf i allowance m
-unfolding callOf
-call-refused i allowance m v e h = rw (← e, ne-eqb (v .number) 0 h)
+  pub call-refused : {v : Verdict} → v ≡ callFault i m → (v .number ≡ 0 → ⊥) → outcome m (refusal v) ≡ callOf i allowance m
+  unfolding callOf
+  call-refused {v} e h = rw (← e, ne-eqb (v .number) 0 h)
 
-pub call-made : (i : Inputs) (allowance : ℕ) (m : Mem) → callFault i m .number ≡ 0 → acceptedOf i allowance m ≡ callOf i allowance m
-unfolding callOf
-call-made i allowance m e = rw (eq-eqb (callFault i m .number) 0 e)
+  pub call-made : callFault i m .number ≡ 0 → acceptedOf i allowance m ≡ callOf i allowance m
+  unfolding callOf
+  call-made e = rw (eq-eqb (callFault i m .number) 0 e)

@@ -1,12 +1,8 @@
-pub mod OneWrite
 pub mod Runs
 pub mod Parts
 pub mod Buffers
-pub mod Flat
 pub mod Checked
-pub mod Blocks
 pub mod Sequence
-pub mod Progress
 pub mod Loans
 pub mod Uses
 pub mod Demand

@@ -1,11 +1,9 @@
 -- What one call of a job leaves and answers, for every input and every memory that it is lent (document 01, "Stores and the mark"). Definitions only.
 use mathlib.Core.Bool.{cond}
-use mathlib.Core.List.{List}
 use Prim.Native.Nat.{ℕ, zero, suc, _+_, _-_, _*_, _/_, _%_, min}
 use lib.Dec.{eqb}
-use lib.ListN.{getD}
 use Rattle.faults.specs.Faults.{NONE}
-use Rattle.layers.specs.Cells.{natOf}
+use Rattle.pictures.specs.Shapes.{natOf}
 use Rattle.layers.specs.Inputs.{Inputs}
 use Rattle.layers.specs.Layers.{layerAt}
 use Rattle.pictures.specs.declared.Words.{Words}
@@ -13,22 +11,20 @@ use Rattle.pictures.specs.Widen.{rgbaAt}
 use Rattle.compose.specs.Compose.{composedAt}
 use Rattle.job.specs.declared.Answer.{Answer}
 use Rattle.job.specs.declared.Write.{Write}
-use Rattle.job.specs.declared.Write.the-variants.{Checkpoint}
-use Rattle.job.specs.Job.{pixelCount, endOf, callFault, acceptance, refusal}
-use Rattle.job.specs.Memory.{Mem, memOf, positionOf, put, workOf, fiveWrites}
+use Rattle.job.specs.Job.{phaseAt, pixelAt, endOf, callFault, acceptance, refusal}
+use Rattle.job.specs.Memory.{Mem, positionOf, put, workOf, writeOf}
 
 -- ---- the writes of an accepted call
 
 -- Pixel j of phase k, by the memory that it finds: phase 0 widens the destination, phase k + 1 composites layer k on the picture in work k mod 2.
 unfoldable pub phasePixel : Inputs → Mem → (k j : ℕ) → Words
-phasePixel i m zero j = rgbaAt (i .dst) (natOf (i .channels)) j
+phasePixel i m zero j = rgbaAt (i .dst) (natOf (i .shape .channels)) j
 phasePixel i m (suc k) j =
-    composedAt (i .samples) (layerAt (i .table) (i .args) k) (natOf (i .width)) (natOf (i .height)) (rgbaAt (workOf k m) 4) j
+    composedAt (i .samples) (layerAt (i .table) (i .args) k) (natOf (i .shape .width)) (natOf (i .shape .height)) (rgbaAt (workOf k m) 4) j
 
 -- Write t of the job, counted from its start, five a position: the phase of position p is p / N, its pixel p mod N.
 unfoldable pub writeAt : Inputs → Mem → (t : ℕ) → Write
-writeAt i m t =
-    let p = t / 5 in let k = p / pixelCount i in let j = p % pixelCount i in getD (fiveWrites k j (phasePixel i m k j) (p + 1)) (t % 5) (Checkpoint 0)
+writeAt i m t = let p = t / 5 in let k = phaseAt i p in let j = pixelAt i p in writeOf k j (phasePixel i m k j) (p + 1) (t % 5)
 
 -- the memory after n writes from write t on
 unfoldable pub runOf : Inputs → (t n : ℕ) → Mem → Mem

@@ -3,14 +3,15 @@
 use mathlib.Core.Path.{_≡_}
 use mathlib.Core.Bool.{cond}
 use mathlib.Core.List.{List, [], _∷_}
-use Prim.Native.Nat.{ℕ, zero, suc, _+_, _*_, _/_, _%_, _<_, min}
+use Prim.Native.Nat.{ℕ, zero, suc, _+_, _*_, _/_, _<_, min}
 use lib.ListN.{length, take}
 use Rattle.faults.specs.Faults.{NONE}
 use Rattle.layers.specs.Inputs.{Inputs}
 use Rattle.job.specs.Memory.{Mem, positionOf, workOf}
-use Rattle.job.specs.Job.{pixelCount, layerCount, endOf, callFault}
+use Rattle.job.specs.Job.{phaseAt, pixelAt, layerCount, endOf, callFault}
 use Rattle.job.specs.declared.Write.{Write}
-use Rattle.job.specs.Call.{madeOf, callOf}
+use Rattle.job.specs.Call.{callOf}
+use Rattle.job.specs.Steps.{batchOf}
 use Rattle.job.specs.Uses.{UsesFrom}
 use Rattle.job.specs.Loans.{lent, returned}
 use Rattle.job.specs.Model.{pictureOf, entriesOf, Call, allowed, cut, refused, Seen, modelOf}
@@ -61,9 +62,8 @@ beneathOf i (suc k) = pictureOf i k
 -- memory m, after a list of calls, at its position: the picture that is being written, right up to the position, and the whole picture beneath it
 pub record Underway (i : Inputs) (m : Mem) : Type 0 where
   pub written :
-      take (4 * (positionOf m % pixelCount i)) (workOf (positionOf m / pixelCount i) m)
-      ≡ take (4 * (positionOf m % pixelCount i)) (pictureOf i (positionOf m / pixelCount i))
-  pub beneath : beneathIn i m (positionOf m / pixelCount i) ≡ beneathOf i (positionOf m / pixelCount i)
+      let k = phaseAt i (positionOf m) in let n = 4 * pixelAt i (positionOf m) in take n (workOf k m) ≡ take n (pictureOf i k)
+  pub beneath : let k = phaseAt i (positionOf m) in beneathIn i m k ≡ beneathOf i k
 
 pub record Demand3 (i : Inputs) (start : Mem) (calls : List Call) : Type 0 where
   -- call for call, the program leaves the model's bits and gives the model's answers
@@ -85,4 +85,4 @@ pub record Demand3 (i : Inputs) (start : Mem) (calls : List Call) : Type 0 where
   pub uses :
       (n : ℕ) (ws : List Write)
       → let m = memoryAfter (programOf i) start calls in
-      UsesFrom i (positionOf m) (madeOf i n m) 0 m ws → ws ≡ take (length ws) (entriesOf i n m)
+      UsesFrom (batchOf i n m) 0 m ws → ws ≡ take (length ws) (entriesOf i n m)

@@ -1,12 +1,12 @@
 -- A job by its inputs (document 01): its numbers, the checks of its memory, which come after those of its inputs, and its answers.
 -- Definitions only.
 use mathlib.Core.Bool.{Bool, false, cond}
-use Prim.Native.Nat.{ℕ, _+_, _*_}
+use Prim.Native.Nat.{ℕ, _+_, _*_, _/_, _%_}
 use lib.Dec.{eqb, ltb}
 use lib.ListN.{length}
 use Rattle.faults.specs.Faults.{NONE, WORK, MARK}
 use Rattle.layers.specs.declared.Verdict.{Verdict}
-use Rattle.layers.specs.Cells.{natOf}
+use Rattle.pictures.specs.Shapes.{natOf}
 use Rattle.layers.specs.Inputs.{Inputs, verdict, jobFault}
 use Rattle.job.specs.declared.Answer.{Answer}
 use Rattle.job.specs.Memory.{Mem, positionOf}
@@ -15,10 +15,17 @@ use Rattle.job.specs.Memory.{Mem, positionOf}
 
 -- the pixels of the destination, and of each picture (document 01: N)
 abbrev pub pixelCount : Inputs → ℕ
-pixelCount i = natOf (i .width) * natOf (i .height)
+pixelCount i = natOf (i .shape .width) * natOf (i .shape .height)
 
 abbrev pub layerCount : Inputs → ℕ
 layerCount i = natOf (i .count)
+
+-- the phase of position p, and its pixel
+abbrev pub phaseAt : Inputs → ℕ → ℕ
+phaseAt i p = p / pixelCount i
+
+abbrev pub pixelAt : Inputs → ℕ → ℕ
+pixelAt i p = p % pixelCount i
 
 -- the position of a finished job
 abbrev pub endOf : Inputs → ℕ

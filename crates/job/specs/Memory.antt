@@ -70,3 +70,7 @@ fiveWrites k j w position =
     ∷ wordWrite k (4 * j + 3) (w .a)
     ∷ Checkpoint position
     ∷ []
+
+-- write c of them
+abbrev pub writeOf : (k j : ℕ) → Words → (position c : ℕ) → Write
+writeOf k j w position c = getD (fiveWrites k j w position) c (Checkpoint 0)

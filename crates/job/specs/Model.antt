@@ -5,7 +5,7 @@ use mathlib.Core.List.{List, [], _∷_, _++_}
 use Prim.Native.Nat.{ℕ, zero, suc, _+_, _*_}
 use lib.Dec.{eqb}
 use lib.ListN.{length, take, drop}
-use Rattle.layers.specs.Cells.{natOf}
+use Rattle.pictures.specs.Shapes.{natOf}
 use Rattle.layers.specs.Inputs.{Inputs}
 use Rattle.layers.specs.Layers.{layerAt}
 use Rattle.pictures.specs.FlatWords.{flat}
@@ -21,10 +21,10 @@ use Rattle.job.specs.Loans.{Loan, lent}
 
 -- picture 0 is the widened destination; picture k + 1 is what demand 2's definition gives for layer k on picture k, four channels
 unfoldable pub pictureOf : Inputs → ℕ → List ℕ
-pictureOf i zero = flat (rgbaAt (i .dst) (natOf (i .channels))) 0 (pixelCount i)
+pictureOf i zero = flat (rgbaAt (i .dst) (natOf (i .shape .channels))) 0 (pixelCount i)
 pictureOf i (suc k) =
     flat
-    (composedAt (i .samples) (layerAt (i .table) (i .args) k) (natOf (i .width)) (natOf (i .height)) (rgbaAt (pictureOf i k) 4))
+    (composedAt (i .samples) (layerAt (i .table) (i .args) k) (natOf (i .shape .width)) (natOf (i .shape .height)) (rgbaAt (pictureOf i k) 4))
     0
     (pixelCount i)
 

@@ -8,7 +8,7 @@ use Rattle.layers.specs.Inputs.{Inputs, jobFault}
 use Rattle.pictures.specs.Widen.{rgbaAt}
 use Rattle.job.specs.Memory.{Mem, positionOf}
 use Rattle.job.specs.Job.{pixelCount, layerCount, endOf}
-use Rattle.job.specs.Call.{phasePixel, runOf}
+use Rattle.job.specs.Call.{phasePixel, runOf, madeOf}
 
 -- a bound of positions and of places in a list, 2^62; it is slack
 abbrev pub mostPosition : ℕ
@@ -26,37 +26,47 @@ pub record Sized (i : Inputs) (m : Mem) : Type 0 where
   pub works : Works (pixelCount i) (m .work0) (m .work1)
   pub checkpoint : length (m .checkpoint) ≡ 1
 
--- A call of a job whose inputs have no fault, which found the position `start` and makes `due` writes, none past the job's end, and has counted `uses` of
--- them: the lists have their lengths, and the position is where the count says.
-pub record Midway (i : Inputs) (start due uses : ℕ) (m : Mem) : Type 0 where
-  pub fit : jobFault i .number ≡ NONE
-  pub sized : Sized i m
-  pub position : positionOf m ≡ start + uses / 5
-  pub within : 5 * start + due ≤ 5 * endOf i
+-- The writes of an accepted call: those of the job with these inputs, from the position `start` on, `due` of them.
+pub record Batch : Type 0 where
+  pub inputs : Inputs
+  pub start : ℕ
+  pub due : ℕ
+
+-- of a call that finds memory m and is allowed so many
+abbrev pub batchOf : Inputs → (allowance : ℕ) → Mem → Batch
+batchOf i allowance m = record { inputs = i; start = positionOf m; due = madeOf i allowance m }
+
+-- The call has made `uses` of them: the inputs have no fault, the lists have their lengths, the position is where the count says, and no write that is due
+-- is past the job's end.
+pub record Midway (b : Batch) (uses : ℕ) (m : Mem) : Type 0 where
+  pub fit : jobFault (b .inputs) .number ≡ NONE
+  pub sized : Sized (b .inputs) m
+  pub position : positionOf m ≡ b .start + uses / 5
+  pub within : 5 * b .start + b .due ≤ 5 * endOf (b .inputs)
 
 -- Its next n writes are those of picture k from pixel j on, of which none has been made.
-pub record Part (i : Inputs) (start due uses k j n : ℕ) (m : Mem) : Type 0 where
-  pub midway : Midway i start due uses m
+pub record Part (b : Batch) (uses k j n : ℕ) (m : Mem) : Type 0 where
+  pub midway : Midway b uses m
   pub fresh : uses % 5 ≡ 0
-  pub place : start + uses / 5 ≡ k * pixelCount i + j
-  pub inside : 5 * j + n ≤ 5 * pixelCount i
-  pub left : uses + n ≤ due
+  pub place : b .start + uses / 5 ≡ k * pixelCount (b .inputs) + j
+  pub inside : 5 * j + n ≤ 5 * pixelCount (b .inputs)
+  pub left : uses + n ≤ b .due
 
 -- they have been made
-pub record Ran (i : Inputs) (start uses n uses′ : ℕ) (m m′ : Mem) : Type 0 where
-  pub memory : m′ ≡ runOf i (5 * start + uses) n m
+pub record Ran (b : Batch) (uses n uses′ : ℕ) (m m′ : Mem) : Type 0 where
+  pub memory : m′ ≡ runOf (b .inputs) (5 * b .start + uses) n m
   pub count : uses′ ≡ uses + n
 
 -- ---- the buffer
 
 -- count pixels of phase k from pixel `from` on can be composed
-pub record Fillable (i : Inputs) (k from count : ℕ) (work0 work1 : List ℕ) : Type 0 where
-  pub fit : jobFault i .number ≡ NONE
-  pub works : Works (pixelCount i) work0 work1
-  pub phase : k ≤ layerCount i
-  pub inside : from + count ≤ pixelCount i
+pub record Fillable (b : Batch) (k from count : ℕ) (work0 work1 : List ℕ) : Type 0 where
+  pub fit : jobFault (b .inputs) .number ≡ NONE
+  pub works : Works (pixelCount (b .inputs)) work0 work1
+  pub phase : k ≤ layerCount (b .inputs)
+  pub inside : from + count ≤ pixelCount (b .inputs)
 
 -- it holds the pixels of n writes of phase k, from pixel `from` on
-pub record Buffered (i : Inputs) (k from n : ℕ) (m : Mem) (buf : List ℕ) : Type 0 where
+pub record Buffered (b : Batch) (k from n : ℕ) (m : Mem) (buf : List ℕ) : Type 0 where
   pub room : 4 * ((n + 4) / 5) ≤ length buf
-  pub pixel : (x : ℕ) → 5 * x < n → rgbaAt buf 4 x ≡ phasePixel i m k (from + x)
+  pub pixel : (x : ℕ) → 5 * x < n → rgbaAt buf 4 x ≡ phasePixel (b .inputs) m k (from + x)

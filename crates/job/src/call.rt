@@ -15,8 +15,12 @@ use crate::writes::writes;
 use compose::run::min;
 use faults::Fault;
 use layers::Verdict;
-use layers::cells::natural;
 use layers::check;
+use pictures::Shape;
+use pictures::shapes::channels_of;
+use pictures::shapes::height_of;
+use pictures::shapes::natural;
+use pictures::shapes::width_of;
 
 // The fault of the lent memory.
 fn memory_fault(pixels: usize, end: usize, work0: &[u32], work1: &[u32], checkpoint: &[u64]) -> u64
@@ -40,9 +44,7 @@ fn memory_fault(pixels: usize, end: usize, work0: &[u32], work1: &[u32], checkpo
 
 // The first fault of a call: of its inputs, then of its memory.
 fn fault(
-    width: i64,
-    height: i64,
-    channels: i64,
+    shape: Shape,
     dst: &[u32],
     count: i64,
     table: &[i64],
@@ -53,14 +55,14 @@ fn fault(
     checkpoint: &[u64],
 ) -> Verdict
     ensures { λ r. ⌜
-        r ≡ callFault (inputs width height channels dst count table args samples) (found work0 work1 checkpoint)
+        r ≡ callFault (inputs shape dst count table args samples) (found work0 work1 checkpoint)
         ⌝ }
 {
-    let v = check(width, height, channels, dst, count, table, args, samples);
+    let v = check(shape, dst, count, table, args, samples);
     if v.number != Fault::NONE {
         return v;
     }
-    let pixels = natural(width) * natural(height);
+    let pixels = width_of(shape) * height_of(shape);
     let end = (natural(count) + 1) * pixels;
     Verdict {
         number: memory_fault(pixels, end, work0, work1, checkpoint),
@@ -82,9 +84,7 @@ fn acceptance(stores: u64, position: u64, end: u64) -> Answer
 
 // A call without a fault.
 fn accepted(
-    width: i64,
-    height: i64,
-    channels: i64,
+    shape: Shape,
     dst: &[u32],
     count: i64,
     table: &[i64],
@@ -96,16 +96,16 @@ fn accepted(
     checkpoint: &mut [u64],
 ) -> Answer
     requires { ⌜
-        callFault (inputsOf width height channels (now dst) count (now table) (now args) (now samples)) (held work0 work1 checkpoint) .number
+        callFault (inputsOf shape (now dst) count (now table) (now args) (now samples)) (held work0 work1 checkpoint) .number
         ≡ NONE
         ⌝ }
     ensures { λ r. ⌜
         outcome (left work0 work1 checkpoint) r
-        ≡ acceptedOf (inputs width height channels dst count table args samples) allowance (found work0 work1 checkpoint)
+        ≡ acceptedOf (inputs shape dst count table args samples) allowance (found work0 work1 checkpoint)
         ⌝ }
 {
-    let w = natural(width);
-    let h = natural(height);
+    let w = width_of(shape);
+    let h = height_of(shape);
     let layers = natural(count);
     let end = (layers + 1) * (w * h);
     let start = checkpoint[0] as usize;
@@ -113,7 +113,7 @@ fn accepted(
     let extent = Extent {
         width: w,
         height: h,
-        channels: natural(channels),
+        channels: channels_of(shape),
         layers,
         start,
         due: min(allowance as usize, left),
@@ -135,9 +135,7 @@ fn accepted(
 
 // A call of a job, allowed so many writes. Its whole outcome, for every input and whatever the lists hold, is `callOf`.
 pub fn run(
-    width: i64,
-    height: i64,
-    channels: i64,
+    shape: Shape,
     dst: &[u32],
     count: i64,
     table: &[i64],
@@ -150,13 +148,11 @@ pub fn run(
 ) -> Answer
     ensures { λ r. ⌜
         outcome (left work0 work1 checkpoint) r
-        ≡ callOf (inputs width height channels dst count table args samples) allowance (found work0 work1 checkpoint)
+        ≡ callOf (inputs shape dst count table args samples) allowance (found work0 work1 checkpoint)
         ⌝ }
 {
     let v = fault(
-        width,
-        height,
-        channels,
+        shape,
         dst,
         count,
         table,
@@ -175,9 +171,7 @@ pub fn run(
         };
     }
     accepted(
-        width,
-        height,
-        channels,
+        shape,
         dst,
         count,
         table,

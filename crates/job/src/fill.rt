@@ -7,10 +7,10 @@ ghost use Rattle.lent.specs.Lent.{before, after};
 ghost use Rattle.pictures.specs.FlatWords.{filled};
 ghost use Rattle.job.specs.Memory.{memOf};
 ghost use Rattle.job.specs.Call.{phasePixel};
-ghost use Rattle.job.specs.Uses.{inputsBy};
+ghost use Rattle.job.specs.Uses.{heldBatch, lentBatch};
 ghost use Rattle.job.specs.Steps.{Fillable};
 use crate::Extent;
-use compose::cell::plan;
+use compose::plans::plan;
 use compose::run::span;
 use compose::source::source_of;
 use layers::Layer;
@@ -32,16 +32,11 @@ pub fn fill(
     out: &mut [u32],
 )
     requires { ⌜
-        (Fillable (inputsBy extent (now dst) (now table) (now args) (now samples)) k from count (now work0) (now work1))
-        × (4 * count ≤ length (now out))
+        (Fillable (heldBatch extent dst table args samples) k from count (now work0) (now work1)) × (4 * count ≤ length (now out))
         ⌝ }
     ensures { λ _. ⌜
-        after out
-        ≡ filled
-        (λ x.
-        phasePixel (inputsBy extent (before dst) (before table) (before args) (before samples))
-        (memOf (before work0) (before work1) []) k (from + x))
-        count (before out)
+        (let pixel = phasePixel (lentBatch extent dst table args samples .inputs) (memOf (before work0) (before work1) []) k in
+        after out ≡ filled (λ x. pixel (from + x)) count (before out))
         ⌝ }
 {
     if k == 0 {

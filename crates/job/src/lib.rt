@@ -8,14 +8,14 @@ mod pixel; // pixel.rt: the writes of a pixel, and of a span, from the buffer
 mod store; // store.rt: the one function that writes
 
 // One write (document 01: a store): a word of work buffer 0 or 1, or the job's position.
-pub enum Write {
+enum Write {
     Work0 { at: usize, word: u32 },
     Work1 { at: usize, word: u32 },
     Checkpoint { position: u64 },
 }
 
 // The numbers of an accepted call: its inputs', the position that it found, and the writes that it makes.
-pub struct Extent {
+struct Extent {
     pub width: usize,
     pub height: usize,
     pub channels: usize,

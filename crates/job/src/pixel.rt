@@ -1,12 +1,11 @@
 // The writes of a pixel, and of the pixels of a span, from the buffer that they were composed into.
 ghost use mathlib.Core.Path.{_≡_};
 ghost use Prim.Native.Nat.{_+_, _*_, _<_, _≤_};
-ghost use lib.ListN.{length, getD};
+ghost use lib.ListN.{length};
 ghost use Rattle.lent.specs.Lent.{before, after};
 ghost use Rattle.pictures.specs.Widen.{rgbaAt};
-ghost use Rattle.job.specs.declared.Write.the-variants.{Checkpoint};
-ghost use Rattle.job.specs.Memory.{held, found, left, fiveWrites};
-ghost use Rattle.job.specs.Uses.{inputsBy};
+ghost use Rattle.job.specs.Memory.{held, found, left, writeOf};
+ghost use Rattle.job.specs.Uses.{heldBatch, lentBatch};
 ghost use Rattle.job.specs.Steps.{mostPosition, Part, Buffered, Ran};
 use crate::Extent;
 use crate::Write;
@@ -15,7 +14,7 @@ use crate::store::store;
 // Write c of the five of pixel j of picture k, whose words are pixel x of the buffer: red, green, blue, alpha, then the position, raised by one.
 fn write_of(k: usize, j: usize, buf: &[u32], x: usize, c: usize, position: u64) -> Write
     requires { ⌜ (c < 5) × (c < 4 → 4 * x + c < length (now buf)) × (4 * j < mostPosition) × (position < mostPosition) ⌝ }
-    ensures { λ r. ⌜ r ≡ getD (fiveWrites k j (rgbaAt (before buf) 4 x) (position + 1)) c (Checkpoint 0) ⌝ }
+    ensures { λ r. ⌜ r ≡ writeOf k j (rgbaAt (before buf) 4 x) (position + 1) c ⌝ }
 {
     if c == 4 {
         return Write::Checkpoint {
@@ -49,17 +48,11 @@ fn pixel(
     buf: &[u32],
 )
     requires { ⌜
-        (Part (inputsBy extent (now dst) (now table) (now args) (now samples)) (extent .start) (extent .due)
-        (now uses) k (from + x) n (held work0 work1 checkpoint))
-        × (Buffered (inputsBy extent (now dst) (now table) (now args) (now samples)) k from (5 * x + n)
-        (held work0 work1 checkpoint) (now buf))
-        × (n ≤ 5)
+        (let batch = heldBatch extent dst table args samples in let mem = held work0 work1 checkpoint in
+        (Part batch (now uses) k (from + x) n mem) × (Buffered batch k from (5 * x + n) mem (now buf)) × (n ≤ 5))
         ⌝ }
     ensures { λ _. ⌜
-        Ran (inputsBy extent (before dst) (before table) (before args) (before samples)) (extent .start)
-        (before uses) n (after uses)
-        (found work0 work1 checkpoint)
-        (left work0 work1 checkpoint)
+        Ran (lentBatch extent dst table args samples) (before uses) n (after uses) (found work0 work1 checkpoint) (left work0 work1 checkpoint)
         ⌝ }
 {
     let mut c = 0;
@@ -98,16 +91,11 @@ pub fn write_out(
     buf: &[u32],
 )
     requires { ⌜
-        (Part (inputsBy extent (now dst) (now table) (now args) (now samples)) (extent .start) (extent .due)
-        (now uses) k from n (held work0 work1 checkpoint))
-        × (Buffered (inputsBy extent (now dst) (now table) (now args) (now samples)) k from n
-        (held work0 work1 checkpoint) (now buf))
+        (let batch = heldBatch extent dst table args samples in let mem = held work0 work1 checkpoint in
+        (Part batch (now uses) k from n mem) × (Buffered batch k from n mem (now buf)))
         ⌝ }
     ensures { λ _. ⌜
-        Ran (inputsBy extent (before dst) (before table) (before args) (before samples)) (extent .start)
-        (before uses) n (after uses)
-        (found work0 work1 checkpoint)
-        (left work0 work1 checkpoint)
+        Ran (lentBatch extent dst table args samples) (before uses) n (after uses) (found work0 work1 checkpoint) (left work0 work1 checkpoint)
         ⌝ }
 {
     let mut x = 0;

@@ -3,7 +3,7 @@ ghost use mathlib.Core.Path.{_≡_};
 ghost use Prim.Native.Nat.{_+_};
 ghost use Rattle.lent.specs.Lent.{before, after};
 ghost use Rattle.job.specs.Memory.{held, found, left, put};
-ghost use Rattle.job.specs.Uses.{inputsBy, NextUse};
+ghost use Rattle.job.specs.Uses.{heldBatch, NextUse};
 use crate::Extent;
 use crate::Write;
 
@@ -22,15 +22,8 @@ pub fn store(
     uses: &mut u64,
     write: Write,
 )
-    requires { ⌜
-        NextUse (inputsBy extent (now dst) (now table) (now args) (now samples)) (extent .start) (extent .due)
-        (now uses) (held work0 work1 checkpoint) write
-        ⌝ }
-    ensures { λ _. ⌜
-        (left work0 work1 checkpoint
-        ≡ put write (found work0 work1 checkpoint))
-        × (after uses ≡ before uses + 1)
-        ⌝ }
+    requires { ⌜ NextUse (heldBatch extent dst table args samples) (now uses) (held work0 work1 checkpoint) write ⌝ }
+    ensures { λ _. ⌜ (left work0 work1 checkpoint ≡ put write (found work0 work1 checkpoint)) × (after uses ≡ before uses + 1) ⌝ }
 {
     match write {
         Write::Work0 { at, word } => {

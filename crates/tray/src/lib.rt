@@ -5,6 +5,7 @@ ghost use mathlib.Core.Bool.{cond};
 ghost use lib.IntN.{pos};
 ghost use Rattle.lent.specs.Lent.{before, after};
 ghost use Rattle.names.specs.Names.{fromName};
+ghost use Rattle.pictures.specs.Shapes.{shapeOf};
 ghost use Rattle.layers.specs.Inputs.{inputs};
 ghost use Rattle.compose.specs.Single.{composed, composeOf};
 ghost use Rattle.narrowing.specs.Narrow.{narrowed, narrowOf, narrowBytesOf};
@@ -13,6 +14,7 @@ ghost use Rattle.job.specs.Call.{callOf};
 ghost use Rattle.tray.specs.Answers.{named, nameOf, jobOutcome, hostOutcome};
 use faults::Fault;
 use names::Named;
+use pictures::Shape;
 
 // 1 for yes, 0 for no.
 fn flag(b: bool) -> u64
@@ -50,9 +52,14 @@ pub extern "C" fn tray_compose(
     samples: &[u32],
     out: &mut [u32],
 ) -> u64
-    ensures { λ r. ⌜ composed r (after out) ≡ composeOf (inputs width height channels dst (pos 1) table args samples) (before out) ⌝ }
+    ensures { λ r. ⌜ composed r (after out) ≡ composeOf (inputs (shapeOf width height channels) dst (pos 1) table args samples) (before out) ⌝ }
 {
-    compose::single::compose(width, height, channels, dst, table, args, samples, out)
+    let shape = Shape {
+        width,
+        height,
+        channels,
+    };
+    compose::single::compose(shape, dst, table, args, samples, out)
 }
 
 // A picture of four channels narrowed to one, three or four: 0 and the whole output; or 11, with the output as it was.
@@ -93,13 +100,16 @@ pub extern "C" fn tray_job(
 ) -> u64
     ensures { λ r. ⌜
         hostOutcome (left work0 work1 checkpoint) r (after layer) (after stores) (after finished)
-        ≡ jobOutcome (callOf (inputs width height channels dst layers table args samples) allowance (found work0 work1 checkpoint))
+        ≡ jobOutcome (callOf (inputs (shapeOf width height channels) dst layers table args samples) allowance (found work0 work1 checkpoint))
         ⌝ }
 {
-    let a = job::call::run(
+    let shape = Shape {
         width,
         height,
         channels,
+    };
+    let a = job::call::run(
+        shape,
         dst,
         layers,
         table,

@@ -36,8 +36,8 @@ start l = l .before .before .before .before
 -- the k-th name lies within the bytes
 fits : (c : tie.After-wide Inv-loop μ-loop)
     → let l = turn c in
-      let s = start l in
-      l .loop .at + c .wide .result + total (drop (l .loop .k + 1) (s .args .lengths .now)) ≤ length (s .args .names .now)
+    let s = start l in
+    l .loop .at + c .wide .result + total (drop (l .loop .k + 1) (s .args .lengths .now)) ≤ length (s .args .names .now)
 fits c =
     let l = turn c in
     within _ _ (l .loop .k) _ _ (c .before .before .loop-test .taken) (c .wide .ensures) (l .loop .inv .1)

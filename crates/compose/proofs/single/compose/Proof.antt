@@ -31,7 +31,7 @@ told c = c .check .ensures
 
 known : (c : tie.After-channels-of)
     → let a = good c .before in
-      Passed (inputs a) (start a .args .out .now) (c .before .before .width-of .result) (c .before .height-of .result) (c .channels-of .result)
+    Passed (inputs a) (start a .args .out .now) (c .before .before .width-of .result) (c .before .height-of .result) (c .channels-of .result)
 known c =
     let a = good c .before in
     passed (inputs a) _ (told a) (good c .if1 .left) (c .before .before .width-of .ensures) (c .before .height-of .ensures) (c .channels-of .ensures)

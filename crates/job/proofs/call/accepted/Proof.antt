@@ -1,40 +1,41 @@
 -- `job::call::accepted` meets its contract: the numbers of the call are those of its inputs, and its writes are due. Assumes nothing.
 use mathlib.Core.Path.{_≡_, refl, ap, _∙_, subst⁻¹}
 use mir.Facts.{toZ-ofZ}
-use native.Mathlib.Nat.{min-le-right}
 use native.Mathlib.Omega.{arith}
-use Prim.Native.Nat.{ℕ, _+_, _-_, _*_}
+use Prim.Native.Nat.{ℕ, _+_, _*_}
 use lib.Dec.{eqb}
 use borrow.Author.Needs.{needs}
-use Rattle.layers.specs.Cells.{natOf}
+use Rattle.pictures.specs.Shapes.{natOf}
 use Rattle.layers.specs.Inputs.{Inputs, inputsOf, jobFault}
-use Rattle.job.specs.declared.Answer.{Answer}
 use Rattle.job.specs.declared.Extent.{Extent}
 use Rattle.job.specs.Memory.{Mem, memOf, positionOf}
 use Rattle.job.specs.Job.{endOf, acceptance}
-use Rattle.job.specs.Call.{madeOf}
-use Rattle.job.specs.Uses.{inputsBy}
-use Rattle.job.specs.Steps.{Midway}
-use Rattle.job.proofs.Checked.{pixels-small, layers-small, end-small, call-inputs, call-midway, inputs-natural, end-is, call-accepted}
+use Rattle.job.specs.Call.{madeOf, outcome}
+use Rattle.job.specs.Uses.{batchBy}
+use Rattle.job.specs.Steps.{Batch, batchOf, Midway}
+use Rattle.job.proofs.Checked.{end-is, Bounded, bounded, call-inputs, call-midway, batch-is, call-accepted}
 use Rattle.job.proofs.call.accepted.Statement.{statement}
 use Rattle.job.proofs.call.accepted.Tie as tie
 
 -- ---- places of the code
 
 abbrev start : tie.After-natural → tie.Start
-start c = c .before .before .before .before .before .before .before
+start c = c .before .before .before .before .before .before .before .before .before
 
-abbrev read : tie.After-slice-known4 → tie.After-natural3
-read c = c .before
+abbrev counted : tie.After-min → tie.After-natural
+counted c = c .before .before .before
 
-abbrev counted : tie.After-min → tie.After-natural3
-counted c = read (c .before .before)
+abbrev begun : tie.After-min → tie.Start
+begun c = start (counted c)
 
 abbrev written : tie.After-writes → tie.After-min
 written c = c .before .before .before .before .before
 
+abbrev read : tie.After-slice-known8 → tie.After-writes
+read c = c .before .before .before .before .before .before .before
+
 abbrev ended : tie.After-acceptance → tie.After-writes
-ended c = c .before .before .before .before .before .before .before .before
+ended c = read (c .before)
 
 -- what the writes left
 abbrev left : tie.After-writes → Mem
@@ -43,74 +44,69 @@ left c = let l = c .writes .last .1 .1 .1 .1 .1 in memOf (l .0) (l .1 .0) (l .1 
 abbrev uses : tie.After-writes → ℕ
 uses c = c .writes .last .1 .1 .1 .1 .1 .1 .1 .1 .0
 
-abbrev memory : tie.Start → Mem
-memory s = memOf (s .args .work0 .now) (s .args .work1 .now) (s .args .checkpoint .now)
-
-abbrev inputs : tie.Start → Inputs
-inputs s = inputsOf (s .args .width) (s .args .height) (s .args .channels) (s .args .dst .now) (s .args .count) (s .args .table .now) (s .args .args .now) (s .args .samples .now)
-
 -- ---- the numbers of the call
 
-fit : (s : tie.Start) → jobFault (inputs s) .number ≡ 0
-fit s = call-inputs (inputs s) (memory s) (s .pre)
+module _ (s : tie.Start) where
+  abbrev inputs : Inputs
+  inputs = let a = s .args in inputsOf (a .shape) (a .dst .now) (a .count) (a .table .now) (a .args .now) (a .samples .now)
 
-found : (s : tie.Start) → Midway (inputs s) (positionOf (memory s)) 0 0 (memory s)
-found s = call-midway (inputs s) (memory s) (s .pre) 0 (omega arith)
+  abbrev memory : Mem
+  memory = memOf (s .args .work0 .now) (s .args .work1 .now) (s .args .checkpoint .now)
 
-wide : (c : tie.After-natural) → c .natural .result ≡ natOf (start c .args .width)
-wide c = rw (toZ-ofZ (start c .fits .width)) at (c .natural .ensures)
+  fit : jobFault inputs .number ≡ 0
+  fit = call-inputs inputs memory (s .pre)
 
-high : (c : tie.After-natural2) → c .natural2 .result ≡ natOf (start (c .before) .args .height)
-high c = rw (toZ-ofZ (start (c .before) .fits .height)) at (c .natural2 .ensures)
+  found : (allowance : ℕ) → Midway (batchOf inputs allowance memory) 0 memory
+  found = call-midway inputs memory (s .pre)
 
-many : (c : tie.After-natural3) → c .natural3 .result ≡ natOf (start (c .before .before) .args .count)
-many c = rw (toZ-ofZ (start (c .before .before) .fits .count)) at (c .natural3 .ensures)
+module _ (c : tie.After-natural) where
+  wide : c .before .before .width-of .result ≡ natOf (start c .args .shape .width)
+  wide = c .before .before .width-of .ensures
 
-deep : (c : tie.After-natural4) → c .natural4 .result ≡ natOf (start (c .before .before .before .before) .args .channels)
-deep c = rw (toZ-ofZ (start (c .before .before .before .before) .fits .channels)) at (c .natural4 .ensures)
+  high : c .before .height-of .result ≡ natOf (start c .args .shape .height)
+  high = c .before .height-of .ensures
 
-end : (c : tie.After-natural3) → (c .natural3 .result + 1) * (c .before .before .natural .result * c .before .natural2 .result) ≡ endOf (inputs (start (c .before .before)))
-end c = end-is (inputs (start (c .before .before))) (wide (c .before .before)) (high (c .before)) (many c)
+  many : c .natural .result ≡ natOf (start c .args .count)
+  many = rw (toZ-ofZ (start c .fits .count)) at (c .natural .ensures)
 
-made : (c : tie.After-min) → let s = start (counted c .before .before) in c .min .result ≡ madeOf (inputs s) (s .args .allowance) (memory s)
-made c = rw (← end (counted c)) (c .min .ensures)
+  bounds : Bounded (c .before .before .width-of .result) (c .before .height-of .result) (c .natural .result)
+  bounds = bounded (inputs (start c)) (fit (start c)) wide high many
 
-abbrev extent : tie.After-min → Extent
-extent c = record {
-  width = counted c .before .before .natural .result;
-  height = counted c .before .natural2 .result;
-  channels = c .before .natural4 .result;
-  layers = counted c .natural3 .result;
-  start = positionOf (memory (start (counted c .before .before)));
-  due = c .min .result;
-}
+  end : (c .natural .result + 1) * (c .before .before .width-of .result * c .before .height-of .result) ≡ endOf (inputs (start c))
+  end = end-is (inputs (start c)) wide high many
 
-same : (c : tie.After-min) → let s = start (counted c .before .before) in inputsBy (extent c) (s .args .dst .now) (s .args .table .now) (s .args .args .now) (s .args .samples .now) ≡ inputs s
-same c =
-    let n = counted c in
-    let s = start (n .before .before) in
-    inputs-natural (inputs s) (fit s) (extent c) (wide (n .before .before)) (high (n .before)) (deep (c .before)) (many n)
+module _ (c : tie.After-min) where
+  abbrev s : tie.Start
+  s = begun c
+
+  made : c .min .result ≡ madeOf (inputs s) (s .args .allowance) (memory s)
+  made = rw (← end (counted c)) (c .min .ensures)
+
+  deep : c .before .channels-of .result ≡ natOf (s .args .shape .channels)
+  deep = c .before .channels-of .ensures
 
 -- ---- the needs
 
 writes-requires : tie.Need-writes-requires
 writes-requires c κs =
     let d = c .before .before .before .before in
-    let s = start (counted d .before .before) in
-    let h = min-le-right (s .args .allowance) (5 * (endOf (inputs s) - positionOf (memory s))) in
-    (refl, subst⁻¹ (λ (i : Inputs). Midway i (positionOf (memory s)) (d .min .result) 0 (memory s)) (same d) (call-midway (inputs s) (memory s) (s .pre) _ (omega (arith, made d))))
+    let n = counted d in
+    let a = s d in
+    let same = batch-is (inputs a) (a .args .allowance) (memory a) (fit a) _ (wide n) (high n) (deep d) (many n) refl (made d) in
+    (refl, subst⁻¹ (λ (b : Batch). Midway b 0 (memory a)) same (found a _))
 
 -- the answer: the writes that were made, and whether the position is the end
-answered : (c : tie.After-acceptance) → let w = ended c in c .acceptance .result ≡ acceptance (uses w) (eqb (positionOf (left w)) (endOf (inputs (start (counted (written w) .before .before)))))
+answered : (c : tie.After-acceptance) → let w = ended c in c .acceptance .result ≡ acceptance (uses w) (eqb (positionOf (left w)) (endOf (inputs (begun (written w)))))
 answered c = rw (← end (counted (written (ended c)))) (c .acceptance .ensures)
 
 returns : tie.Need-returns
 returns c =
     let w = ended c in
     let d = written w in
-    let s = start (counted d .before .before) in
-    let e = w .writes .ensures in
-    ap (λ (r : Answer). record { mem = left w; answer = r }) (answered c) ∙ call-accepted (inputs s) (s .args .allowance) (memory s) (same d) (e .1 ∙ made d) (e .0)
+    let n = counted d in
+    let a = s d in
+    let same = batch-is (inputs a) (a .args .allowance) (memory a) (fit a) _ (wide n) (high n) (deep d) (many n) refl (made d) in
+    ap (outcome (left w)) (answered c) ∙ call-accepted _ _ _ same (w .writes .ensures)
 
 pub accepted-spec : {M : Type 1} → statement M
 accepted-spec =
@@ -119,16 +115,16 @@ accepted-spec =
     (λ c κs. search needs)
     (λ c κs. search needs)
     (λ c κs. search needs)
-    (λ c. rw (many c) (omega (arith, layers-small _ (fit (start (c .before .before))))))
-    (λ c. rw (wide (c .before .before), high (c .before)) (omega (arith, pixels-small _ (fit (start (c .before .before))))))
-    (λ c. omega (arith, end c, end-small _ (fit (start (c .before .before)))))
-    (λ c. omega (arith, found (start (read c .before .before)) .sized .checkpoint))
-    (λ c. omega (arith, end (read c), found (start (read c .before .before)) .within))
-    (λ c. omega (arith, end (read c), end-small _ (fit (start (read c .before .before)))))
+    (λ c. omega (arith, bounds c .layers))
+    (λ c. omega (arith, bounds c .pixels))
+    (λ c. omega (arith, bounds c .end))
+    (λ c. let v = found (start (c .before)) 0 in omega arith)
+    (λ c. let v = found (start (c .before)) 0 in omega (arith, end (c .before)))
+    (λ c. omega (arith, bounds (c .before) .end))
     (λ c κs. search needs)
     (λ c κs. search needs)
     writes-requires
-    (λ c. let w = c .before .before .before .before .before .before .before in omega (arith, found (start (counted (written w) .before .before)) .sized .checkpoint, w .writes .kept .1 .1 .1 .1 .1 .1 .1 .0))
+    (λ c. let v = found (begun (written (read c))) 0 in omega arith)
     (λ c κs. search needs)
     (λ c. search needs)
     (λ c. search needs)

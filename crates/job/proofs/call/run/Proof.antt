@@ -1,37 +1,41 @@
 -- `job::call::run` meets its contract. Assumes nothing.
-use mathlib.Core.Path.{_≡_, sym, ap, _∙_}
+use mathlib.Core.Path.{_∙_}
 use mir.Facts.{toZ-ofZ}
-use Rattle.layers.specs.declared.Verdict.{Verdict}
-use Rattle.layers.specs.Inputs.{Inputs, inputsOf}
-use Rattle.job.specs.Memory.{memOf}
-use Rattle.job.specs.Job.{callFault}
-use Rattle.job.proofs.Checked.{call-refused, call-made}
 use borrow.Author.Needs.{needs}
+use Rattle.job.proofs.Checked.{call-refused, call-made}
 use Rattle.job.proofs.call.run.Statement.{statement}
 use Rattle.job.proofs.call.run.Tie as tie
+
+-- ---- places of the code
 
 abbrev start : tie.After-fault → tie.Start
 start c = c .before .before .before .before .before .before .before .before .before .before
 
-abbrev inputs : tie.After-fault → Inputs
-inputs c = let s = start c in inputsOf (s .args .width) (s .args .height) (s .args .channels) (s .args .dst .now) (s .args .count) (s .args .table .now) (s .args .args .now) (s .args .samples .now)
+abbrev passed : tie.After-accepted-arg3 → tie.Else1
+passed c = c .before .before .before
 
-found : (c : tie.After-fault) → c .fault .result ≡ callFault (inputs c) (let s = start c in memOf (s .args .work0 .now) (s .args .work1 .now) (s .args .checkpoint .now))
-found c = let s = start c in rw (toZ-ofZ (s .fits .width), toZ-ofZ (s .fits .height), toZ-ofZ (s .fits .channels), toZ-ofZ (s .fits .count)) at (c .fault .ensures)
+abbrev ended : tie.After-slice-known6 → tie.After-accepted
+ended c = c .before .before .before .before .before .before
 
-none : (c : tie.Else1) → callFault (inputs (c .before .before)) (let s = start (c .before .before) in memOf (s .args .work0 .now) (s .args .work1 .now) (s .args .checkpoint .now)) .number ≡ 0
-none c = ap (λ (v : Verdict). v .number) (sym (found (c .before .before))) ∙ c .if1 .left
+-- ---- the needs
 
+-- a refused call
 returns : tie.Need-returns
-returns c = let s = start (c .before .before) in call-refused (inputs (c .before .before)) (s .args .allowance) (memOf (s .args .work0 .now) (s .args .work1 .now) (s .args .checkpoint .now)) (c .before .before .fault .result) (found (c .before .before)) (c .if1 .taken)
+returns c =
+    let e = c .before .before in
+    let f = start e .fits in
+    call-refused _ _ _ (rw (toZ-ofZ (f .count)) at (e .fault .ensures)) (c .if1 .taken)
 
+-- an accepted one, which has no fault
 accepted-requires : tie.Need-accepted-requires
-accepted-requires c κs = let s = start (c .before .before .before .before .before) in rw (toZ-ofZ (s .fits .width), toZ-ofZ (s .fits .height), toZ-ofZ (s .fits .channels), toZ-ofZ (s .fits .count)) (none (c .before .before .before))
+accepted-requires c κs = let e = passed c in rw (e .before .before .fault .ensures) at (e .if1 .left)
 
 returns-2 : tie.Need-returns-2
 returns-2 c =
-    let s = start (c .before .before .before .before .before .before .before .before .before .before .before .before) in
-    (rw (toZ-ofZ (s .fits .width), toZ-ofZ (s .fits .height), toZ-ofZ (s .fits .channels), toZ-ofZ (s .fits .count)) at (c .before .before .before .before .before .before .accepted .ensures)) ∙ call-made (inputs (c .before .before .before .before .before .before .before .before .before .before .before .before)) (s .args .allowance) (memOf (s .args .work0 .now) (s .args .work1 .now) (s .args .checkpoint .now)) (none (c .before .before .before .before .before .before .before .before .before .before))
+    let a = ended c in
+    let f = start (passed (a .before) .before .before) .fits in
+    rw (toZ-ofZ (f .count))
+    at (a .accepted .ensures ∙ call-made _ _ _ (accepted-requires (a .before) (a .accepted .lifetimes)))
 
 pub run-spec : {M : Type 1} → statement M
 run-spec =

@@ -1,105 +1,101 @@
 -- `job::fill::fill` meets its contract: one law for phase 0 and one for the others, by the work buffer that is read. Assumes nothing.
 use mathlib.Core.Path.{_≡_, _∙_, subst⁻¹}
-use mathlib.Core.Bool.{true, false}
-use mathlib.Core.List.{List}
 use native.Mathlib.Nat.{mul-le-mul-right, mul-comm}
 use native.Mathlib.Omega.{arith}
-use Prim.Native.Nat.{ℕ, _+_, _-_, _*_, _<_}
+use Prim.Native.Nat.{ℕ, _+_, _-_, _*_, _<_, _≤_}
 use lib.ListN.{length}
 use borrow.Author.Needs.{needs}
 use borrow.Author.Tests.{eq-eqb, ne-eqb}
-use Rattle.layers.specs.Cells.{natOf}
+use Rattle.pictures.specs.Shapes.{natOf}
 use Rattle.layers.specs.GoodLayers.{GoodLayer}
 use Rattle.layers.specs.Inputs.{Inputs}
-use Rattle.layers.proofs.Accepted.{Accepted, accepted, row-held, words-held, measured, destination}
+use Rattle.layers.proofs.Accepted.{Accepted, accepted, destination}
 use Rattle.pictures.proofs.Ranges.{channels-least, channels-most}
-use Rattle.compose.specs.Ready.{Ready, Run}
+use Rattle.compose.specs.Ready.{Ready, Span}
 use Rattle.job.specs.Job.{pixelCount, layerCount}
-use Rattle.job.specs.Uses.{inputsBy}
-use Rattle.job.proofs.Buffers.{fill-first, fill-later, plan-run}
+use Rattle.job.specs.Uses.{batchBy}
+use Rattle.job.proofs.Buffers.{fill-first, fill-later, plan-span}
 use Rattle.job.proofs.fill.fill.Statement.{statement}
 use Rattle.job.proofs.fill.fill.Tie as tie
 
 -- ---- places of the code
 
+abbrev first : tie.Then1 → tie.Start
+first c = c .before .before .before .before .before .before .before
+
 abbrev start : tie.Else1 → tie.Start
 start c = c .before .before .before .before .before .before .before
 
-abbrev inputs : tie.Start → Inputs
-inputs s = inputsBy (s .args .extent) (s .args .dst .now) (s .args .table .now) (s .args .args .now) (s .args .samples .now)
+abbrev later : tie.After-source-of → tie.Else1
+later c = c .before .before .before
 
-fit : (s : tie.Start) → Accepted (inputs s)
-fit s = accepted (inputs s) (s .pre .0 .fit)
+-- ---- the inputs, which have no fault
+
+module _ (s : tie.Start) where
+  abbrev inputs : Inputs
+  inputs = let a = s .args in batchBy (a .extent) (a .dst .now) (a .table .now) (a .args .now) (a .samples .now) .inputs
+
+  fit : Accepted inputs
+  fit = accepted inputs (s .pre .0 .fit)
 
 -- ---- phase 0
 
 widen-requires : tie.Need-widen-requires
 unfolding natOf
 widen-requires c κs =
-    let s = c .before .before .before .before .before .before .before .before in
-    let d = destination (inputs s) (fit s) in
-    let n = mul-comm (s .args .extent .channels) (s .args .from + s .args .count) in
-    (d .some, d .most, omega (arith, d .whole, mul-le-mul-right (s .args .extent .channels) (s .pre .0 .inside), n), s .pre .1)
+    let s = first (c .before) in
+    let a = fit s in
+    let n = s .args .extent .channels in
+    let k = a .shape .deep .kind in
+    omega (arith, channels-least n k, channels-most n k, mul-le-mul-right n (s .pre .0 .inside), mul-comm n (s .args .from + s .args .count))
 
 returns : tie.Need-returns
 unfolding natOf
-returns c =
-    let s = c .before .before .before .before .before .before .before .before .before .before .before in
-    c .before .before .widen .ensures ∙ fill-first (inputs s) (s .args .work0 .now) (s .args .work1 .now) (s .args .from) (s .args .count) (s .args .out .now) (s .args .k) (c .before .before .before .before .if1 .taken)
+returns c = let w = c .before .before in w .widen .ensures ∙ fill-first _ _ _ _ _ _ (w .before .before .if1 .taken)
 
 -- ---- a later phase: its layer, which has no fault
 
-inside : (c : tie.Else1) → let s = start c in s .args .k - 1 < layerCount (inputs s)
-inside c = omega (arith, c .if1 .left, start c .pre .0 .phase)
-
-at-requires : tie.Need-at-requires
-at-requires c κs = let s = start c in let i = inputs s in (row-held i (fit s) _ (inside c), words-held i (fit s) _ (inside c))
+module _ (c : tie.Else1) where
+  inside : start c .args .k - 1 < layerCount (inputs (start c))
+  inside = omega arith
 
 good : (c : tie.After-at) → GoodLayer (length (start (c .before) .args .samples .now)) (c .at .result)
-good c = let s = start (c .before) in subst⁻¹ (GoodLayer (length (s .args .samples .now))) (c .at .ensures) (fit s .layer _ (inside (c .before)))
+good c = subst⁻¹ (GoodLayer _) (c .at .ensures) (fit (start (c .before)) .layer _ (inside (c .before)))
 
 plan-requires : tie.Need-plan-requires
 unfolding natOf
 plan-requires c κs =
-    let s = start (c .before) in
-    let d = destination (inputs s) (fit s) in
+    let a = fit (start (c .before)) in
     let g = good c in
-    (measured _ _ _ _ (d .width) (d .height) g, channels-least _ (g .channels), channels-most _ (g .channels))
+    omega (arith, channels-least _ (g .channels), channels-most _ (g .channels))
 
 -- what composing asks, for the work buffer that it reads
-beneath : (c : tie.After-source-of) (work : List ℕ) → let s = start (c .before .before .before) in length work ≡ 4 * pixelCount (inputs s) → Ready (c .before .plan .result) (length (c .source-of .result .now)) × Run (c .before .plan .result) (length work) 4 (s .args .from) (s .args .count)
+beneath : (c : tie.After-source-of) {words : ℕ} → let s = start (later c) in let p = c .before .plan .result in words ≡ 4 * pixelCount (inputs s)
+    → Ready p (length (c .source-of .result .now)) × Span p words 4 (s .args .from) (s .args .count) × (4 * s .args .count ≤ length (s .args .out .now))
 unfolding natOf
-beneath c work e =
-    let s = start (c .before .before .before) in
-    let d = destination (inputs s) (fit s) in
-    let p = c .before .plan .ensures in (
-      subst⁻¹ (Ready (c .before .plan .result)) (c .source-of .ensures .1) (p .ready),
-      plan-run _ _ _ _ _ _ _ (p .made) (d .width) (d .height) e (s .pre .0 .inside),
-    )
-
-span-requires : tie.Need-span-requires
-span-requires c κs = let o = c .before .before in let s = start (o .before .before .before) in let b = beneath o (s .args .work0 .now) (s .pre .0 .works .length0) in (b .0, b .1, s .pre .1)
-
-span-requires-2 : tie.Need-span-requires-2
-span-requires-2 c κs = let o = c .before .before in let s = start (o .before .before .before) in let b = beneath o (s .args .work1 .now) (s .pre .0 .works .length1) in (b .0, b .1, s .pre .1)
+beneath c e =
+    let s = start (later c) in
+    let d = destination _ (fit s) in
+    let p = c .before .plan .ensures in
+    (subst⁻¹ (Ready _) (c .source-of .ensures .1) (p .ready), plan-span _ (p .made) (d .width) (d .height) e (s .pre .0 .inside), s .pre .1)
 
 returns-2 : tie.Need-returns-2
 unfolding natOf
 returns-2 c =
-    let t = c .before .before .before .before in
+    let r = c .before .before in
+    let t = r .before .before in
     let o = t .before in
-    let e = o .before .before .before in
-    let s = start e in
-    c .before .before .span .ensures ∙ fill-later (inputs s) (s .args .work0 .now) (s .args .work1 .now) (s .args .from) (s .args .count) (s .args .out .now) (s .args .k) _ _ _ true (e .if1 .left) (o .before .before .at .ensures) (o .before .plan .ensures) (o .source-of .ensures .0) (eq-eqb _ _ (t .if2 .taken))
+    let e = eq-eqb _ _ (t .if2 .taken) in
+    r .span .ensures ∙ fill-later _ _ _ _ _ _ (later o .if1 .left) (o .before .before .at .ensures) (o .before .plan .ensures) (o .source-of .ensures .0) e
 
 returns-3 : tie.Need-returns-3
 unfolding natOf
 returns-3 c =
-    let t = c .before .before .before .before in
+    let r = c .before .before in
+    let t = r .before .before in
     let o = t .before in
-    let e = o .before .before .before in
-    let s = start e in
-    c .before .before .span2 .ensures ∙ fill-later (inputs s) (s .args .work0 .now) (s .args .work1 .now) (s .args .from) (s .args .count) (s .args .out .now) (s .args .k) _ _ _ false (e .if1 .left) (o .before .before .at .ensures) (o .before .plan .ensures) (o .source-of .ensures .0) (ne-eqb _ _ (t .if2 .left))
+    let e = ne-eqb _ _ (t .if2 .left) in
+    r .span2 .ensures ∙ fill-later _ _ _ _ _ _ (later o .if1 .left) (o .before .before .at .ensures) (o .before .plan .ensures) (o .source-of .ensures .0) e
 
 pub fill-spec : {M : Type 1} → statement M
 fill-spec =
@@ -109,13 +105,13 @@ fill-spec =
     (λ c. search needs)
     returns
     (λ c. search needs)
-    at-requires
+    (λ c κs. let a = fit (start c) in omega (arith, inside c))
     plan-requires
     (λ c κs. good (c .before))
     (λ c. search needs)
-    span-requires
+    (λ c κs. let o = c .before .before in beneath o (start (later o) .pre .0 .works .length0))
     (λ c. search needs)
     returns-2
-    span-requires-2
+    (λ c κs. let o = c .before .before in beneath o (start (later o) .pre .0 .works .length1))
     (λ c. search needs)
     returns-3)

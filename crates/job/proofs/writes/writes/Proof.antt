@@ -1,22 +1,18 @@
 -- `job::writes::writes` meets its contract.
 -- The invariant: memory is what the call's first `uses` writes leave, whole pixels while writes are due, and the buffer has kept its length. The measure
 -- is what is left of the writes. Assumes nothing.
-use Prim.Native.Nat.{_+_, _-_, _*_, _/_, _%_, _<_, _≤_}
-use mathlib.Core.Path.{_≡_, refl, sym, _∙_}
-use native.Mathlib.Nat.{mod-lt}
+use Prim.Native.Nat.{ℕ, _+_, _-_, _*_, _/_, _%_, _<_, _≤_}
+use mathlib.Core.Path.{_≡_, refl, sym}
 use native.Mathlib.Omega.{arith}
 use lib.ListN.{length}
-use Rattle.places.specs.Bounds.{slack}
-use Rattle.layers.specs.Cells.{natOf}
-use Rattle.layers.specs.Inputs.{Inputs}
+use Rattle.pictures.specs.Shapes.{natOf}
 use Rattle.job.specs.Memory.{Mem, memOf}
 use Rattle.job.specs.Job.{endOf}
-use Rattle.job.specs.Call.{runOf}
-use Rattle.job.specs.Uses.{inputsBy}
-use Rattle.job.specs.Steps.{Midway}
-use Rattle.job.proofs.Checked.{pixels-small, end-small, some-pixel}
+use Rattle.job.specs.Uses.{batchBy}
+use Rattle.job.specs.Steps.{Batch, Midway, Ran}
+use Rattle.job.proofs.Checked.{Bounded, bounded, pixel-within}
 use Rattle.job.proofs.Buffers.{buffered}
-use Rattle.job.proofs.Parts.{still0, still1, still-checkpoint, Span, span, start-midway, start-on}
+use Rattle.job.proofs.Parts.{ran-none, ran-on, ran-as, ran-midway, ran-lengths, Span, span}
 use Rattle.job.proofs.writes.writes.Statement.{statement}
 use Rattle.job.proofs.writes.writes.Tie as tie
 
@@ -24,7 +20,7 @@ abbrev Inv-loop : tie.InvT-loop
 Inv-loop extent dst table args samples work0₀ work1₀ checkpoint₀ uses₀ pixels buf₀ work0 work1 checkpoint uses buf =
     (uses ≤ extent .due)
     × (uses < extent .due → uses % 5 ≡ 0)
-    × (memOf work0 work1 checkpoint ≡ runOf (inputsBy extent dst table args samples) (5 * extent .start) uses (memOf work0₀ work1₀ checkpoint₀))
+    × Ran (batchBy extent dst table args samples) 0 uses uses (memOf work0₀ work1₀ checkpoint₀) (memOf work0 work1 checkpoint)
     × (length buf ≡ 512)
 
 abbrev μ-loop : tie.MeasureT-loop
@@ -32,8 +28,8 @@ abbrev μ-loop : tie.MeasureT-loop
 
 -- ---- places of the code
 
-abbrev start : tie.At-loop Inv-loop μ-loop → tie.Start Inv-loop μ-loop
-start c = c .before .before .before .before .before .before .before .before
+abbrev start : tie.After-struct-known Inv-loop μ-loop → tie.Start Inv-loop μ-loop
+start c = c .before .before .before .before .before .before .before
 
 abbrev pass : tie.Then1 Inv-loop μ-loop → tie.At-loop Inv-loop μ-loop
 pass c = c .before .before
@@ -44,106 +40,105 @@ split c = c .before .before .before
 abbrev counted : tie.After-min2 Inv-loop μ-loop → tie.Then1 Inv-loop μ-loop
 counted c = split (c .before .before)
 
-abbrev composed : tie.After-fill Inv-loop μ-loop → tie.After-min2 Inv-loop μ-loop
-composed c = c .before .before .before .before
+abbrev asked : tie.After-buf Inv-loop μ-loop → tie.After-min2 Inv-loop μ-loop
+asked c = c .before .before .before
 
-abbrev written : tie.After-write-out Inv-loop μ-loop → tie.After-fill Inv-loop μ-loop
-written c = c .before .before .before .before .before .before .before
+abbrev composed : tie.After-buf3 Inv-loop μ-loop → tie.After-fill Inv-loop μ-loop
+composed c = c .before .before .before .before .before .before
 
-abbrev found : tie.At-loop Inv-loop μ-loop → Mem
-found c = memOf (c .loop .work0) (c .loop .work1) (c .loop .checkpoint)
+abbrev written : tie.After-slice-known6 Inv-loop μ-loop → tie.After-write-out Inv-loop μ-loop
+written c = c .before .before .before .before .before .before
 
-abbrev inputs : tie.Start Inv-loop μ-loop → Inputs
-inputs s = inputsBy (s .args .extent) (s .args .dst .now) (s .args .table .now) (s .args .args .now) (s .args .samples .now)
+-- ---- what holds there
 
--- ---- the needs
+module _ (s : tie.Start Inv-loop μ-loop) where
+  abbrev batch : Batch
+  batch = let a = s .args in batchBy (a .extent) (a .dst .now) (a .table .now) (a .args .now) (a .samples .now)
 
-small : (s : tie.Start Inv-loop μ-loop) → s .args .extent .width * s .args .extent .height ≤ slack * slack
-unfolding natOf
-small s = pixels-small (inputs s) (s .pre .1 .fit)
+  small : let e = s .args .extent in Bounded (e .width) (e .height) (e .layers)
+  unfolding natOf
+  small = bounded (batch .inputs) (s .pre .1 .fit) refl refl refl
 
-midway : (c : tie.At-loop Inv-loop μ-loop) → let s = start c in Midway (inputs s) (s .args .extent .start) (s .args .extent .due) (c .loop .uses) (found c)
-midway c = start-midway (start c .pre .1) (start c .pre .0) (c .loop .inv .2)
+module _ (l : tie.At-loop Inv-loop μ-loop) where
+  abbrev found : Mem
+  found = memOf (l .loop .work0) (l .loop .work1) (l .loop .checkpoint)
 
--- the position is before the end
-room : (c : tie.Then1 Inv-loop μ-loop) → let s = start (pass c) in s .args .extent .start + pass c .loop .uses / 5 < endOf (inputs s)
-room c = omega (arith, midway (pass c) .within, c .if1 .taken)
+  midway : Midway (batch (start (l .before))) (l .loop .uses) found
+  midway = ran-midway (l .loop .inv .2) (start (l .before) .pre .1)
 
-some : (c : tie.Then1 Inv-loop μ-loop) → let e = start (pass c) .args .extent in 0 < e .width * e .height
-unfolding natOf
-some c = some-pixel (inputs (start (pass c))) _ (room c)
+-- the position is before the end, and its pixel in the picture
+module _ (c : tie.Then1 Inv-loop μ-loop) where
+  abbrev b : Batch
+  b = batch (start (pass c .before))
+
+  abbrev position : ℕ
+  position = b .start + pass c .loop .uses / 5
+
+  room : position < endOf (b .inputs)
+  room = omega arith
+
+  inner : let e = start (pass c .before) .args .extent in position % (e .width * e .height) < e .width * e .height
+  unfolding natOf
+  inner = pixel-within (b .inputs) position room
+
+  fresh : pass c .loop .uses % 5 ≡ 0
+  fresh = pass c .loop .inv .1 (c .if1 .taken)
 
 -- the span that is next
-next : (c : tie.After-min2 Inv-loop μ-loop) → let l = pass (counted c) in let s = start l in Span (inputs s) (s .args .extent .start) (s .args .extent .due) (l .loop .uses) (c .min2 .result) (found l)
+next : (c : tie.After-min2 Inv-loop μ-loop) → let t = counted c in Span (b t) (pass t .loop .uses) (c .min2 .result) (found (pass t))
 unfolding natOf
-next c =
-    let t = counted c in
-    span (midway (pass t)) (pass t .loop .inv .1 (t .if1 .taken)) (t .if1 .taken) (c .before .min .ensures) (c .min2 .ensures)
+next c = let t = counted c in span (midway (pass t)) (fresh t) (t .if1 .taken) (omega arith) (omega (arith, inner t))
 
-loop-holds : tie.Need-loop-holds Inv-loop μ-loop
-unfolding runOf
-loop-holds c =
-    let s = c .before .before .before .before .before .before .before in
-    (omega (arith, s .pre .0), λ t. omega (arith, s .pre .0), rw (s .pre .0) refl, refl)
-
-fill-requires : tie.Need-fill-requires Inv-loop μ-loop
-unfolding natOf
-fill-requires c κs =
-    let d = c .before .before .before in
-    (next d .fillable, omega (arith, next d .most, pass (counted d) .loop .inv .3))
-
--- the buffer has kept its length
-kept : (c : tie.After-fill Inv-loop μ-loop) → length (c .fill .last .1 .1 .1 .1 .1 .1 .1 .1 .1 .1 .0) ≡ 512
-kept c = c .fill .kept .1 .1 .1 .1 .1 .1 .1 .1 .1 .1 .0 ∙ pass (counted (composed c)) .loop .inv .3
+-- ---- the needs
 
 write-out-requires : tie.Need-write-out-requires Inv-loop μ-loop
 unfolding natOf
 write-out-requires c κs =
-    let f = c .before .before .before .before .before .before in
-    let d = composed f in
-    (next d .part, buffered _ _ _ _ (found (pass (counted d))) _ _ (omega (arith, kept f, next d .most)) (f .fill .ensures))
+    let f = composed c in
+    let d = asked (f .before) in
+    (next d .part, buffered (found (pass (counted d))) _ (omega arith) (f .fill .ensures))
 
-loop-less : tie.Need-loop-less Inv-loop μ-loop
-loop-less c =
-    let w = c .before .before .before .before .before .before in
-    let n = next (composed (written w)) in
-    omega (arith, n .some, n .part .left, w .write-out .ensures .count)
+-- the buffer has kept its length
+kept : tie.Need-slice-aggregate-write-out Inv-loop μ-loop
+kept c = omega arith
 
 loop-again : tie.Need-loop-again Inv-loop μ-loop
 loop-again c =
-    let w = c .before .before .before .before .before .before in
-    let d = composed (written w) in
-    let n = next d in
-    let e = w .write-out .ensures in
-    (omega (arith, n .part .left, e .count), n .whole _ (e .count), start-on _ (pass (counted d) .loop .inv .2) e, kept (written w))
+    let e = written c .write-out .ensures in
+    let d = asked (composed (written c .before) .before) in
+    let l = d .min2 .ensures in
+    let l₁ = d .before .min .ensures in
+    let t = counted d in
+    (omega arith, λ h. omega (arith, fresh t, inner t), ran-on (omega arith) (pass t .loop .inv .2) e, sym (kept (written c .before)))
 
 returns : tie.Need-returns Inv-loop μ-loop
-returns c = let v = c .before .before .loop .inv in (v .2, omega (arith, v .0, c .if1 .left))
+returns c = let v = c .before .before .loop .inv in ran-as (omega arith) (v .2)
 
 pub writes-spec : {M : Type 1} → statement M
+unfolding natOf
 writes-spec =
     tie.close
     (tie.spec
     Inv-loop
     μ-loop
-    (λ c. omega (arith, small (c .before .before .before .before .before .before .before)))
-    loop-holds
-    (λ c. let t = c .before .before in omega (arith, room t, end-small _ (midway (pass t) .fit)))
-    (λ c. some (c .before .before))
-    (λ c. some (c .before .before))
-    (λ c. omega (arith, split c .if1 .taken))
-    (λ c. let l = pass (split c) in omega (arith, mod-lt (start l .args .extent .start + l .loop .uses / 5) (some (split c))))
-    (λ c. omega (arith, small (start (pass (split c)))))
+    (λ c. omega arith)
+    (λ c. let z = start c .pre .0 in (omega arith, λ t. omega arith, rw z ran-none, omega arith))
+    (λ c. let t = c .before .before in omega (arith, room t, small (start (pass t .before)) .end))
+    (λ c. omega (arith, inner (c .before .before)))
+    (λ c. omega (arith, inner (c .before .before)))
+    (λ c. omega arith)
+    (λ c. omega (arith, inner (split c)))
+    (λ c. omega (arith, small (start (pass (split c) .before)) .pixels))
     (λ c κs. tt)
     (λ c κs. tt)
-    (λ c. omega (arith, next (c .before .before) .most))
-    (λ c. sym (pass (counted (c .before .before .before)) .loop .inv .3))
-    fill-requires
-    (λ c. sym (kept (c .before .before .before .before .before .before)))
+    (λ c. omega arith)
+    (λ c. omega arith)
+    (λ c κs. (next (asked c) .fillable, omega arith))
+    kept
     write-out-requires
-    loop-less
+    (λ c. omega (arith, inner (counted (asked (composed (written c .before) .before)))))
     loop-again
-    (λ c. let l = c .before .before in still0 (start l .pre .1 .sized) (midway l .sized))
-    (λ c. let l = c .before .before in still1 (start l .pre .1 .sized) (midway l .sized))
-    (λ c. let l = c .before .before in still-checkpoint (start l .pre .1 .sized) (midway l .sized))
+    (λ c. ran-lengths (returns c) (start (c .before .before .before) .pre .1) .0)
+    (λ c. ran-lengths (returns c) (start (c .before .before .before) .pre .1) .1)
+    (λ c. ran-lengths (returns c) (start (c .before .before .before) .pre .1) .2)
     returns)
