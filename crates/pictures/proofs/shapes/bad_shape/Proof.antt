@@ -18,6 +18,7 @@ past-width c = c .before .before
 abbrev past-height : tie.After-bad-channels → tie.Else2
 past-height c = c .before .before
 
+-- that a number fits is told with its struct: `.0` the width, `.1 .0` the height, `.1 .1 .0` the channels
 wide : (c : tie.After-outside) → c .outside .result ≡ outsideZ (pos 0) (pos mostSide) (start c .args .shape .width)
 wide c = rw (toZ-ofZ (sfits-of (c .before .struct-told .given .0 .1))) at (c .outside .ensures)
 
