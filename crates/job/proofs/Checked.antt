@@ -2,8 +2,8 @@
 use mathlib.Core.Path.{_≡_, refl}
 use mathlib.Core.Bool.{Bool, true, false, cond}
 use mathlib.Core.Logic.{⊎-elim}
-use Prim.Native.Nat.{ℕ, zero, suc, _+_, _*_, _<_, _≤_}
-use native.Mathlib.Nat.{add-zero, zero-add, mul-le-mul, mul-zero, not-suc-le-zero, mod-lt, div-lt-iff-lt-mul, eq-zero-or-pos}
+use Prim.Native.Nat.{ℕ, suc, _+_, _*_, _<_, _≤_}
+use native.Mathlib.Nat.{add-zero, zero-add, mul-le-mul, mul-zero, mod-lt, div-lt-iff-lt-mul, eq-zero-or-pos}
 use native.Mathlib.Omega.{arith}
 use lib.Dec.{eqb, ltb}
 use lib.ListN.{length}
@@ -62,14 +62,10 @@ memory-none i m e =
 
 -- ---- bounds of accepted inputs
 
-pos-right : (a b : ℕ) → 0 < a * b → 0 < b
-pos-right a zero h = absurd (not-suc-le-zero (rw mul-zero at h))
-pos-right a (suc b) h = omega arith
-
 -- a position before the end is one of a job that has pixels, and of one of its phases
 module _ (i : Inputs) (p : ℕ) (room : p < endOf i) where
   pub some-pixel : 0 < pixelCount i
-  some-pixel = pos-right (layerCount i + 1) (pixelCount i) (omega arith)
+  some-pixel = ⊎-elim (λ z. let r = rw z at room in absurd (omega (arith, mul-zero (layerCount i + 1)))) (λ h. h) (eq-zero-or-pos (pixelCount i))
 
   pub phase-within : phaseAt i p ≤ layerCount i
   phase-within = let k : phaseAt i p < layerCount i + 1 = div-lt-iff-lt-mul some-pixel .1 room in omega arith

@@ -1,7 +1,7 @@
 -- DEMAND 3, one theorem about a list of calls of any length: `demand-3`, at the end of this file. Its hypotheses are all there: a job whose call at
 -- position 0 has no fault, whatever its work buffers hold; and a list of calls in which those that are named as refused are refused. It rests on the
 -- call's contract (specs/Call), on what `store` asks (specs/Uses) and on the reference model (specs/Model) alone. Assumes nothing.
-use mathlib.Core.Path.{_≡_, refl, _∙_, ap, sym}
+use mathlib.Core.Path.{_≡_, refl, _∙_, sym}
 use mathlib.Core.List.{List, [], _∷_}
 use mathlib.Core.Logic.{⊎-elim}
 use Prim.Native.Nat.{ℕ, zero, suc, _+_, _-_, _*_, _/_, _<_, _≤_, min}
@@ -9,19 +9,20 @@ use native.Mathlib.Nat.{min-le-right, min-eq-left, min-eq-right, zero-div, zero-
 use native.Mathlib.Numerals.{add-one}
 use native.Mathlib.Omega.{arith}
 use lib.Dec.{eqb}
-use lib.ListN.{length, take, drop, length-take}
+use lib.ListN.{length, take, length-take}
 use lib.Seq.{ext-getD, take-all, take-take, take-length}
 use Rattle.faults.specs.Faults.{NONE}
 use Rattle.layers.specs.Inputs.{Inputs}
+use Rattle.job.specs.declared.Write.{Write}
 use Rattle.job.specs.Memory.{Mem, memOf, positionOf, stored, workOf}
 use Rattle.job.specs.Job.{pixelCount, phaseAt, layerCount, endOf, callFault, acceptance}
 use Rattle.job.specs.Call.{madeOf, leftBy, outcome, acceptedOf, callOf}
 use Rattle.job.specs.Loans.{lent}
-use Rattle.job.specs.Model.{pictureOf, writeSequence, entriesOf, Call, allowed, cut, refused, modelOf}
+use Rattle.job.specs.Model.{pictureOf, entriesOf, Call, allowed, cut, refused, modelOf}
 use Rattle.job.specs.Demand.{programOf, history, memoryAfter, FairCall, Fair, beneathIn, beneathOf, Underway, Demand3}
 use Rattle.job.specs.Steps.{batchOf, Midway}
 use Rattle.job.proofs.Runs.{place-div, start-midway}
-use Rattle.job.proofs.Sequence.{picture-length, Beneath, Progress, work-length, begun-again, left-length, made}
+use Rattle.job.proofs.Sequence.{work-length, picture-length, left-length, Beneath, begun-again, Progress, Made, made}
 use Rattle.job.proofs.Checked.{some-pixel, call-midway, midway-call, call-made, call-refused}
 use Rattle.job.proofs.Loans.{returned-same}
 use Rattle.job.proofs.Uses.{uses-are}
@@ -40,35 +41,36 @@ take-min n xs = rw (take-cut, take-length)
 
 -- ---- an accepted call
 
-module _ (i : Inputs) (n : ℕ) (m : Mem) where
-  made-min : madeOf i n m ≡ min n (length (drop (5 * positionOf m) (writeSequence i)))
-  made-min = ap (min n) (sym (left-length i (positionOf m)))
+module _ (i : Inputs) (n : ℕ) (m : Mem) (v : Progress i m) where
+  abbrev entries : List Write
+  entries = entriesOf i n m
 
-  module _ (v : Progress i m) where
-    -- it leaves what the entries leave that the model makes, and counts them
-    left-is : leftBy i n m ≡ stored (entriesOf i n m) m
-    left-is = made i m (madeOf i n m) (min-le-right n _) v .same ∙ rw (made-min, take-min)
+  abbrev after : Mem
+  after = stored entries m
 
-    call-is : let entries = entriesOf i n m in let after = stored entries m in
-        callOf i n m ≡ outcome after (acceptance (length entries) (eqb (positionOf after) (endOf i)))
-    unfolding acceptedOf
-    call-is = rw (← (call-made i n m (v .fit)), left-is, length-take, ← made-min)
+  all : Made i m (madeOf i n m)
+  all = made i m (madeOf i n m) (min-le-right n _) v
 
-    left-midway : Midway (batchOf i n m) (madeOf i n m) (stored (entriesOf i n m) m)
-    left-midway = rw left-is at (start-midway (call-midway i m (v .fit) n) (madeOf i n m))
+  -- it leaves what the entries leave that the model makes, and counts them
+  left-is : leftBy i n m ≡ after
+  left-is = all .same ∙ rw (← (left-length i (positionOf m)), take-min)
 
-    -- it has gained floor(made / 5) pixels
-    gained : positionOf (stored (entriesOf i n m) m) ≡ min (positionOf m + n / 5) (endOf i)
-    gained = let c = left-midway in omega arith
+  call-is : callOf i n m ≡ outcome after (acceptance (length entries) (eqb (positionOf after) (endOf i)))
+  unfolding acceptedOf
+  call-is = rw (← (call-made i n m (v .fit)), left-is, length-take, left-length)
 
-    -- and leaves memory that the next call can take up
-    stays-one : Progress i (stored (entriesOf i n m) m)
-    stays-one =
-        let e : positionOf (stored (entriesOf i n m) m) ≡ (5 * positionOf m + madeOf i n m) / 5 = left-midway .position ∙ omega arith in
-        record {
-          fit = midway-call left-midway (omega arith);
-          here = λ z. rw e (begun-again i (rw left-is at (made i m (madeOf i n m) (min-le-right n _) v .here z)));
-        }
+  left-midway : Midway (batchOf i n m) (madeOf i n m) after
+  left-midway = rw left-is at (start-midway (call-midway i m (v .fit) n) (madeOf i n m))
+
+  -- it has gained floor(made / 5) pixels
+  gained : positionOf after ≡ min (positionOf m + n / 5) (endOf i)
+  gained = let c = left-midway in omega arith
+
+  -- and leaves memory that the next call can take up
+  stays-one : Progress i after
+  stays-one =
+      let e : positionOf after ≡ (5 * positionOf m + madeOf i n m) / 5 = left-midway .position ∙ omega arith in
+      record { fit = midway-call left-midway (omega arith); here = λ z. rw e (begun-again i (rw left-is at (all .here z))) }
 
 -- ---- calls one after the other
 
@@ -85,37 +87,29 @@ module _ (i : Inputs) where
   stays m (cut n k) v = rw take-cut at (stays-one i (min k n) m v)
   stays m (refused inputs n loan uncut) v = v
 
-  histories : (m : Mem) (cs : List Call) → Progress i m → Fair i m cs → history (programOf i) m cs ≡ history (modelOf i) m cs
-  unfolding history Fair
-  histories m [] v f = refl
-  histories m (c ∷ cs) v f = rw (program-is m c v (f .0), histories (modelOf i m c .mem) cs (stays m c v) (f .1))
-
-  memories : (m : Mem) (cs : List Call) → Progress i m → Fair i m cs → memoryAfter (programOf i) m cs ≡ memoryAfter (modelOf i) m cs
-  unfolding memoryAfter Fair
-  memories m [] v f = refl
-  memories m (c ∷ cs) v f = rw (program-is m c v (f .0)) (memories (modelOf i m c .mem) cs (stays m c v) (f .1))
-
-  progress-after : (m : Mem) (cs : List Call) → Progress i m → Progress i (memoryAfter (modelOf i) m cs)
-  unfolding memoryAfter
-  progress-after m [] v = v
-  progress-after m (c ∷ cs) v = progress-after (modelOf i m c .mem) cs (stays m c v)
+  calls-are : (m : Mem) (cs : List Call) → Progress i m → Fair i m cs
+      → (history (programOf i) m cs ≡ history (modelOf i) m cs)
+      × (memoryAfter (programOf i) m cs ≡ memoryAfter (modelOf i) m cs)
+      × Progress i (memoryAfter (modelOf i) m cs)
+  unfolding history memoryAfter Fair
+  calls-are m [] v f = (refl, refl, v)
+  calls-are m (c ∷ cs) v f =
+      let e = program-is m c v (f .0) in
+      let r = calls-are (modelOf i m c .mem) cs (stays m c v) (f .1) in
+      (rw (e, r .0), rw e (r .1), r .2)
 
 -- ---- what lies under the position
 
 module _ (i : Inputs) (m : Mem) (v : Progress i m) where
-  finished-is : positionOf m ≡ endOf i → workOf (layerCount i) m ≡ pictureOf i (layerCount i)
-  finished-is e = ⊎-elim empty full (eq-zero-or-pos (pixelCount i))
-    where
-      l : length (workOf (layerCount i) m) ≡ 4 * pixelCount i
-      l = work-length i m (layerCount i) (call-midway i m (v .fit) 0 .sized)
-
-      empty : pixelCount i ≡ 0 → workOf (layerCount i) m ≡ pictureOf i (layerCount i)
-      empty z = ext-getD 0 _ _ (l ∙ sym (picture-length i (layerCount i))) (λ x h. absurd (omega (arith, l)))
-
-      full : 0 < pixelCount i → workOf (layerCount i) m ≡ pictureOf i (layerCount i)
-      full z =
-          let s : positionOf m ≡ suc (layerCount i) * pixelCount i + 0 = e ∙ rw (add-one, add-zero) in
-          v .here z .below (layerCount i) (sym (place-div (pixelCount i) (positionOf m) (suc (layerCount i)) 0 s z))
+  finished-is : let k = layerCount i in positionOf m ≡ endOf i → workOf k m ≡ pictureOf i k
+  finished-is e =
+      let k = layerCount i in
+      let l = work-length i m k (call-midway i m (v .fit) 0 .sized) in
+      let s : positionOf m ≡ suc k * pixelCount i + 0 = e ∙ rw (add-one, add-zero) in
+      ⊎-elim
+      (λ z. ext-getD 0 _ _ (l ∙ sym (picture-length i k)) (λ x h. absurd (omega arith)))
+      (λ z. v .here z .below k (sym (place-div (pixelCount i) (positionOf m) (suc k) 0 s z)))
+      (eq-zero-or-pos (pixelCount i))
 
   beneath-is : (k : ℕ) → Beneath i m k → beneathIn i m k ≡ beneathOf i k
   beneath-is zero h = refl
@@ -126,13 +120,6 @@ module _ (i : Inputs) (m : Mem) (v : Progress i m) where
       let h = v .here (some-pixel i (positionOf m) l) in
       record { written = rw add-zero at (h .right); beneath = beneath-is (phaseAt i (positionOf m)) (h .below) }
 
--- a job at position 0, with whatever its work buffers hold
-start-is : (i : Inputs) (work0 work1 : List ℕ) → callFault i (memOf work0 work1 (0 ∷ [])) .number ≡ 0 → Progress i (memOf work0 work1 (0 ∷ []))
-start-is i work0 work1 e = record {
-  fit = e;
-  here = λ z. record { right = rw zero-mod refl; below = λ b x. absurd (omega (arith, zero-div (pixelCount i))) };
-}
-
 -- DEMAND 3. Of any job that is free of faults at position 0, whatever its work buffers hold, any list of calls, with any allowances, any of them cut
 -- after any number of writes, refused ones among them with whatever inputs and whatever lists, leaves and answers what the reference model says.
 pub demand-3 :
@@ -141,26 +128,20 @@ pub demand-3 :
     → (calls : List Call)
     → Fair i (memOf work0 work1 (0 ∷ [])) calls
     → Demand3 i (memOf work0 work1 (0 ∷ [])) calls
-demand-3 i work0 work1 e calls f = record {
-  same = histories i start calls begun f;
-  memory = memory;
-  finished = rw memory (finished-is i after v);
-  earlier = rw memory (earlier-is i after v);
-  gain = rw memory (λ n. rw (call-is i n after v) (gained i n after v));
-  uses = rw memory (λ n ws. uses-are i after n ws v);
-}
+demand-3 i work0 work1 e calls f =
+    let r = calls-are i (memOf work0 work1 (0 ∷ [])) calls start f in
+    let m = memoryAfter (modelOf i) (memOf work0 work1 (0 ∷ [])) calls in
+    record {
+      same = r .0;
+      memory = r .1;
+      finished = rw (r .1) (finished-is i m (r .2));
+      earlier = rw (r .1) (earlier-is i m (r .2));
+      gain = rw (r .1) (λ n. rw (call-is i n m (r .2)) (gained i n m (r .2)));
+      uses = rw (r .1) (λ n ws. uses-are i m n ws (r .2));
+    }
   where
-    start : Mem
-    start = memOf work0 work1 (0 ∷ [])
-
-    begun : Progress i start
-    begun = start-is i work0 work1 e
-
-    after : Mem
-    after = memoryAfter (modelOf i) start calls
-
-    memory : memoryAfter (programOf i) start calls ≡ after
-    memory = memories i start calls begun f
-
-    v : Progress i after
-    v = progress-after i start calls begun
+    start : Progress i (memOf work0 work1 (0 ∷ []))
+    start = record {
+      fit = e;
+      here = λ z. record { right = rw zero-mod refl; below = λ b x. absurd (omega (arith, zero-div (pixelCount i))) };
+    }

@@ -1,6 +1,5 @@
 pub mod Runs
 pub mod Parts
-pub mod Buffers
 pub mod Checked
 pub mod Sequence
 pub mod Loans

@@ -1,18 +1,32 @@
--- The writes of a call, part after part: what a part asks after another, and what it adds. Assumes nothing.
-use mathlib.Core.Path.{_≡_, refl, sym, _∙_}
-use mathlib.Core.List.{List}
-use Prim.Native.Nat.{ℕ, _+_, _*_, _/_, _%_, _<_, _≤_}
-use native.Mathlib.Nat.{add-zero, add-assoc, div-add-mod'}
+-- The writes of a call, part after part: what a part asks after another, and what it adds; and the buffer that a part's pixels are composed into. Assumes
+-- nothing.
+use mathlib.Core.Path.{_≡_, refl, sym, _∙_, ap}
+use mathlib.Core.List.{List, []}
+use mathlib.Core.Bool.{Bool, cond}
+use Prim.Native.Nat.{ℕ, _+_, _*_, _/_, _%_, _<_, _≤_, zero, suc, _-_}
+use native.Mathlib.Nat.{add-zero, add-assoc, zero-add}
 use native.Mathlib.Omega.{arith}
 use lib.ListN.{length}
+use lib.Dec.{eqb}
+use Rattle.places.specs.Bounds.{slack}
+use Rattle.layers.specs.declared.Layer.{Layer}
+use Rattle.pictures.specs.Shapes.{natOf}
+use Rattle.layers.specs.Inputs.{Inputs}
+use Rattle.layers.specs.Layers.{layerAt}
 use Rattle.pictures.specs.declared.Words.{Words}
+use Rattle.pictures.specs.Widen.{rgbaAt}
+use Rattle.pictures.specs.FlatWords.{filled}
+use Rattle.pictures.proofs.FlatWords.{flat-pixel}
+use Rattle.compose.specs.declared.Plan.{Plan}
+use Rattle.compose.specs.Compose.{sourceOf}
+use Rattle.compose.specs.Plans.{planOf, pixelOn}
+use Rattle.compose.specs.Ready.{Planned, Span}
 use Rattle.job.specs.declared.Write.{Write}
-use Rattle.job.specs.Memory.{Mem, put, InRange, writeOf, positionOf}
-use Rattle.job.specs.Job.{pixelCount, phaseAt, pixelAt}
+use Rattle.job.specs.Memory.{Mem, put, InRange, writeOf, positionOf, memOf, workIn}
+use Rattle.job.specs.Job.{pixelCount}
 use Rattle.job.specs.Call.{phasePixel, runOf}
 use Rattle.job.specs.Uses.{NextUse}
-use Rattle.job.specs.Steps.{Batch, Midway, Part, Ran, Buffered, Fillable}
-use Rattle.job.proofs.Checked.{phase-within}
+use Rattle.job.specs.Steps.{Batch, Midway, Part, Ran, Buffered}
 use Rattle.job.proofs.Runs.{write-range, write-is, run-split, run-midway, run-under, under-pixel}
 
 module _ {b : Batch} where
@@ -76,15 +90,39 @@ module _ {b : Batch} where
   unfolding runOf
   use-ran h (e, g) = record { memory = rw (e, h .next, add-zero); count = g }
 
--- ---- a span of the loop
+-- ---- the buffer
 
--- After whole pixels of a call's writes, n more that are due and lie in the picture at the position. They can be composed.
-pub record Span (b : Batch) (u n : ℕ) (m : Mem) : Type 0 where
-  pub part : let p = b .start + u / 5 in Part b u (phaseAt (b .inputs) p) (pixelAt (b .inputs) p) n m
-  pub fillable : let p = b .start + u / 5 in Fillable b (phaseAt (b .inputs) p) (pixelAt (b .inputs) p) ((n + 4) / 5) (m .work0) (m .work1)
+module _ (i : Inputs) (work0 work1 : List ℕ) (from n : ℕ) (out : List ℕ) where
+  -- phase 0 widens the destination
+  pub fill-first : {k : ℕ} → k ≡ 0
+      → filled (λ x. rgbaAt (i .dst) (natOf (i .shape .channels)) (from + x)) n out ≡ filled (λ x. phasePixel i (memOf work0 work1 []) k (from + x)) n out
+  unfolding phasePixel
+  fill-first e = rw e
 
-pub span : {b : Batch} {u n : ℕ} {m : Mem} → Midway b u m → u % 5 ≡ 0 → u < b .due → u + n ≤ b .due
-    → 5 * pixelAt (b .inputs) (b .start + u / 5) + n ≤ 5 * pixelCount (b .inputs) → Span b u n m
-span {b} {u} h fresh some left inside =
-    let p = b .start + u / 5 in
-    omega (arith, div-add-mod' p (pixelCount (b .inputs)), phase-within (b .inputs) p (omega arith))
+  -- a later one composites its layer, decoded, on the picture beneath, which is in the work buffer that b says
+  pub fill-later : {k : ℕ} {l : Layer} {p : Plan} {source : List ℕ} {b : Bool} → (k ≡ 0 → ⊥) → l ≡ layerAt (i .table) (i .args) (k - 1)
+      → Planned l (natOf (i .shape .width)) (natOf (i .shape .height)) p → source ≡ sourceOf (i .samples) (l .source) → eqb ((k - 1) % 2) 0 ≡ b
+      → filled (λ x. pixelOn p source (rgbaAt (cond b work0 work1) 4) (from + x)) n out
+      ≡ filled (λ x. phasePixel i (memOf work0 work1 []) k (from + x)) n out
+  unfolding phasePixel
+  fill-later {k = zero} h el ep es eb = absurd (h refl)
+  fill-later {k = suc k} h el ep es eb =
+      let e : suc k - 1 ≡ k = omega arith in
+      simp (es, ← eb, e, ep .composes (i .samples) (rgbaAt (workIn k work0 work1) 4)) (simp (el, e))
+
+-- the picture beneath, as the layer's plan asks for it
+pub plan-span : (l : Layer) {dw dh : ℕ} {p : Plan} {words from n : ℕ} → p ≡ planOf l dw dh → dw ≤ slack → dh ≤ slack → words ≡ 4 * (dw * dh) → from + n ≤ dw * dh
+    → Span p words 4 from n
+unfolding planOf
+plan-span l e w h k i = rw e (omega arith)
+
+-- the pixels of n writes, in a buffer that was filled with them
+pub buffered : {b : Batch} {k from n : ℕ} {buf : List ℕ} (m : Mem) (out : List ℕ) → 4 * ((n + 4) / 5) ≤ length buf
+    → buf ≡ filled (λ x. phasePixel (b .inputs) (memOf (m .work0) (m .work1) []) k (from + x)) ((n + 4) / 5) out → Buffered b k from n m buf
+buffered {b} {k} {from} {n} m out h e = record {
+  room = h;
+  pixel = λ x l.
+      ap (λ (xs : List ℕ). rgbaAt xs 4 x) e
+      ∙ flat-pixel _ 0 ((n + 4) / 5) _ x (omega arith)
+      ∙ rw zero-add (under-pixel (b .inputs) k _ m (from + x) (λ y f. refl));
+}

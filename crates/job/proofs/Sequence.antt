@@ -5,7 +5,7 @@ use mathlib.Core.Bool.{Bool, true, false, cond}
 use mathlib.Core.List.{List, [], append-nil}
 use mathlib.Core.Logic.{⊎-elim}
 use Prim.Native.Nat.{ℕ, zero, suc, _+_, _-_, _*_, _/_, _%_, _<_, _≤_}
-use native.Mathlib.Nat.{zero-mul, suc-mul, zero-add, add-zero, add-suc, suc-add, mul-comm, mul-assoc, not-suc-le-zero, le-of-suc-le-suc, div-add-mod', eq-or-lt-of-le}
+use native.Mathlib.Nat.{zero-mul, suc-mul, zero-add, add-zero, add-suc, suc-add, div-add-mod', eq-or-lt-of-le}
 use native.Mathlib.Omega.{arith}
 use lib.Dec.{eqb}
 use lib.ListN.{length, getD, take, drop, length-append, length-drop, List·getD-append}
@@ -36,13 +36,13 @@ module _ {A : Type 0} (f : ℕ → List A) (w : ℕ) (same : (i : ℕ) → lengt
   -- element b of list a
   blocks-from : (d : A) (n i a b : ℕ) → a < n → b < w → getD (blocks f i n) (a * w + b) d ≡ getD (f (i + a)) b d
   unfolding blocks
-  blocks-from d zero i a b h l = absurd (not-suc-le-zero h)
+  blocks-from d zero i a b h l = absurd (omega arith)
   blocks-from d (suc n) i zero b h l =
       let inside : b < length (f i) = omega (arith, same i) in
       rw (zero-mul, zero-add, add-zero, List·getD-append)
   blocks-from d (suc n) i (suc a) b h l =
       let e : suc a * w + b ≡ length (f i) + (a * w + b) = omega (arith, same i, suc-mul a w) in
-      rw (e, getD-append-add, blocks-from d n (suc i) a b (le-of-suc-le-suc h) l, add-suc, suc-add)
+      rw (e, getD-append-add, blocks-from d n (suc i) a b (omega arith) l, add-suc, suc-add)
 
   blocks-at : (d : A) (n a b : ℕ) → a < n → b < w → getD (blocks f 0 n) (a * w + b) d ≡ getD (f a) b d
   blocks-at d n a b h l = rw zero-add at (blocks-from d n 0 a b h l)
@@ -71,8 +71,7 @@ module _ (i : Inputs) where
 
   pub sequence-length : length (writeSequence i) ≡ 5 * endOf i
   unfolding writeSequence
-  sequence-length =
-      length-blocks (pictureWrites i) (n * 5) picture-writes 0 (layerCount i + 1) ∙ sym (mul-assoc (layerCount i + 1) n 5) ∙ mul-comm (endOf i) 5
+  sequence-length = omega (arith, length-blocks (pictureWrites i) (n * 5) picture-writes 0 (layerCount i + 1))
 
   pub left-length : (p : ℕ) → length (drop (5 * p) (writeSequence i)) ≡ 5 * (endOf i - p)
   left-length p = rw (length-drop, sequence-length) (omega arith)
@@ -99,12 +98,10 @@ module _ (i : Inputs) where
 
   -- a pixel that was written in part is begun again
   pub begun-again : {m : Mem} {p c : ℕ} → Here m p c → Here m p 0
-  begun-again {m} {p} {c} v = record { right = shorter (4 * pixelAt i p) _ _ (v .right); below = v .below }
-    where
-      shorter : (a : ℕ) (xs ys : List ℕ) → take (a + c) xs ≡ take (a + c) ys → take (a + 0) xs ≡ take (a + 0) ys
-      shorter a xs ys e =
-          let h : a + 0 ≤ a + c = omega arith in
-          sym (take-take (a + 0) (a + c) xs h) ∙ ap (take (a + 0)) e ∙ take-take (a + 0) (a + c) ys h
+  begun-again {m} {p} {c} v =
+      let a = 4 * pixelAt i p in
+      let h : a + 0 ≤ a + c = omega arith in
+      record { right = rw (← (take-take (a + 0) (a + c) (workOf (phaseAt i p) m) h), v .right, take-take); below = v .below }
 
   -- ---- entry t of the sequence, counted from 0
 
@@ -144,50 +141,39 @@ module _ (i : Inputs) where
     module _ (m : Mem) (z : Sized i m) where
       -- a word of the pixel
       entry-word : t % 5 < 4 → Here m p (t % 5) → Here (put (entry t) m) p (t % 5 + 1)
-      entry-word h v = rw is record { right = right; below = λ b e. word-other at word m b k e ∙ v .below b e }
-        where
-          at : ℕ
-          at = 4 * j + t % 5
+      entry-word h v =
+          let at = 4 * j + t % 5 in
+          let word = getD (pictureOf i k) at 0 in
+          let is : entry t ≡ wordWrite k at word = entry-is ∙ word-of k j (pictureOf i k) j (p + 1) (t % 5) h in
+          let next : 4 * j + (t % 5 + 1) ≡ suc at = omega arith in
+          let w : at < length (workOf k m) = omega (arith, inside, work-length m k z) in
+          let q : at < length (pictureOf i k) = omega (arith, inside, picture-length k) in
+          rw is record {
+            right = rw (next, word-same at word m k, take-suc-set (workOf k m) at word, take-suc (pictureOf i k) at 0, v .right);
+            below = λ b e. word-other at word m b k e ∙ v .below b e;
+          }
 
-          word : ℕ
-          word = getD (pictureOf i k) at 0
-
-          is : entry t ≡ wordWrite k at word
-          is = entry-is ∙ word-of k j (pictureOf i k) j (p + 1) (t % 5) h
-
-          right : take (4 * j + (t % 5 + 1)) (workOf k (put (wordWrite k at word) m)) ≡ take (4 * j + (t % 5 + 1)) (pictureOf i k)
-          right =
-              let e : 4 * j + (t % 5 + 1) ≡ suc at = omega arith in
-              let l = inside in
-              let w : at < length (workOf k m) = omega (arith, work-length m k z) in
-              let q : at < length (pictureOf i k) = omega (arith, picture-length k) in
-              rw (e, word-same at word m k, take-suc-set (workOf k m) at word, take-suc (pictureOf i k) at 0, v .right)
-
-      -- the position
+      -- the position: of a pixel that is not the picture's last, and of the last
       entry-position : t % 5 ≡ 4 → Here m p 4 → Here (put (entry t) m) (p + 1) 0
-      entry-position h v = rw is (⊎-elim last inner (eq-or-lt-of-le inside))
-        where
-          is : entry t ≡ Checkpoint (p + 1)
-          is = entry-is ∙ ap (writeOf k j (rgbaAt (pictureOf i k) 4 j) (p + 1)) h
-
-          inner : suc j < n → Here (put (Checkpoint (p + 1)) m) (p + 1) 0
-          inner l =
-              let e : p + 1 ≡ k * n + suc j = omega (arith, div-add-mod' p n) in
-              let f : 4 * suc j + 0 ≡ 4 * j + 4 = omega arith in
-              let d = place-div n (p + 1) k (suc j) e l in
-              record { right = rw (d, place-mod n (p + 1) k (suc j) e l, f) (v .right); below = rw d (v .below) }
-
-          last : suc j ≡ n → Here (put (Checkpoint (p + 1)) m) (p + 1) 0
-          last l =
-              let e : p + 1 ≡ suc k * n + 0 = omega (arith, div-add-mod' p n, suc-mul k n) in
-              let pos = some-pixel i p room in
-              let a : length (workOf k m) ≤ 4 * j + 4 = omega (arith, work-length m k z) in
-              let b : length (pictureOf i k) ≤ 4 * j + 4 = omega (arith, picture-length k) in
-              let whole : workOf k m ≡ pictureOf i k = rw (take-all (4 * j + 4) (workOf k m) a, take-all (4 * j + 4) (pictureOf i k) b) at (v .right) in
-              record {
-                right = rw (place-mod n (p + 1) (suc k) 0 e pos) refl;
-                below = rw (place-div n (p + 1) (suc k) 0 e pos) (λ b y. let x : b ≡ k = omega arith in rw x whole);
-              }
+      entry-position h v =
+          let is : entry t ≡ Checkpoint (p + 1) = entry-is ∙ ap (writeOf k j (rgbaAt (pictureOf i k) 4 j) (p + 1)) h in
+          rw is (⊎-elim
+          (λ (l : suc j ≡ n).
+          let e : p + 1 ≡ suc k * n + 0 = omega (arith, div-add-mod' p n, suc-mul k n) in
+          let pos = some-pixel i p room in
+          let a : length (workOf k m) ≤ 4 * j + 4 = omega (arith, work-length m k z) in
+          let b : length (pictureOf i k) ≤ 4 * j + 4 = omega (arith, picture-length k) in
+          let whole : workOf k m ≡ pictureOf i k = rw (take-all (4 * j + 4) (workOf k m) a, take-all (4 * j + 4) (pictureOf i k) b) at (v .right) in
+          record {
+            right = rw (place-mod n (p + 1) (suc k) 0 e pos) refl;
+            below = rw (place-div n (p + 1) (suc k) 0 e pos) (λ b y. let x : b ≡ k = omega arith in rw x whole);
+          })
+          (λ (l : suc j < n).
+          let e : p + 1 ≡ k * n + suc j = omega (arith, div-add-mod' p n) in
+          let f : 4 * suc j + 0 ≡ 4 * j + 4 = omega arith in
+          let d = place-div n (p + 1) k (suc j) e l in
+          record { right = rw (d, place-mod n (p + 1) k (suc j) e l, f) (v .right); below = rw d (v .below) })
+          (eq-or-lt-of-le inside))
 
       -- either, by the number of the write
       entry-here : Here m p (t % 5) → Here (put (entry t) m) (suc t / 5) (suc t % 5)

@@ -30,21 +30,24 @@ few b u r [] h v = omega arith
 few b u r (w ∷ ws) h (n, v) = omega (arith, few b (u + 1) (put w r) ws (omega (arith, n .left)) v)
 
 module _ (i : Inputs) (m : Mem) (allowance : ℕ) where
+  abbrev b : Batch
+  b = batchOf i allowance m
+
   -- memory after n writes of the call
   abbrev after : ℕ → Mem
   after n = runOf i (5 * positionOf m) n m
 
-  one : {u : ℕ} {r : Mem} {w : Write} → r ≡ after u → NextUse (batchOf i allowance m) u r w → put w r ≡ after (u + 1)
+  one : {u : ℕ} {r : Mem} {w : Write} → r ≡ after u → NextUse b u r w → put w r ≡ after (u + 1)
   unfolding runOf
   one e n = rw (n .next, e, add-one)
 
-  leave : (u : ℕ) (r : Mem) (ws : List Write) → r ≡ after u → UsesFrom (batchOf i allowance m) u r ws → (n : ℕ) → n ≤ length ws → stored (take n ws) r ≡ after (u + n)
+  leave : (u : ℕ) (r : Mem) (ws : List Write) → r ≡ after u → UsesFrom b u r ws → (n : ℕ) → n ≤ length ws → stored (take n ws) r ≡ after (u + n)
   unfolding UsesFrom stored
   leave u r ws e v zero h = e ∙ ap after (sym (add-zero u))
   leave u r [] e v (suc n) h = absurd (omega arith)
   leave u r (w ∷ ws) e (d, v) (suc n) h = leave (u + 1) (put w r) ws (one e d) v n (omega arith) ∙ ap after (omega arith)
 
-  entries : (u : ℕ) (r : Mem) (ws : List Write) → Progress i m → r ≡ after u → UsesFrom (batchOf i allowance m) u r ws
+  entries : (u : ℕ) (r : Mem) (ws : List Write) → Progress i m → r ≡ after u → UsesFrom b u r ws
       → ws ≡ take (length ws) (drop (5 * positionOf m + u) (writeSequence i))
   unfolding UsesFrom
   entries u r [] v e d = refl
@@ -55,30 +58,26 @@ module _ (i : Inputs) (m : Mem) (allowance : ℕ) where
       let a : suc t ≡ 5 * positionOf m + (u + 1) = omega arith in
       rw (o, drop-cons (writeSequence i) t (Checkpoint 0) (omega (arith, sequence-length i)), a, ← (entries (u + 1) (put w r) ws v (one e n) d))
 
--- After n uses of an accepted call, made one after the other from the count 0 on, memory is what the call, allowed n, leaves.
-pub uses-leave :
-    (i : Inputs) (m : Mem) (allowance : ℕ) (ws : List Write)
-    → callFault i m .number ≡ NONE
-    → UsesFrom (batchOf i allowance m) 0 m ws
-    → (n : ℕ)
-    → n ≤ length ws
-    → stored (take n ws) m ≡ callOf i n m .mem
-unfolding runOf acceptedOf
-uses-leave i m allowance ws e u n h =
-    let l = few (batchOf i allowance m) 0 m ws (omega arith) u in
-    let all : n ≤ 5 * (endOf i - positionOf m) = omega arith in
-    rw (leave i m allowance 0 m ws refl u n h, zero-add, ← (call-made i n m e), min-eq-left)
+  -- After n uses of an accepted call, made one after the other from the count 0 on, memory is what the call, allowed n, leaves.
+  pub uses-leave :
+      (ws : List Write)
+      → callFault i m .number ≡ NONE
+      → UsesFrom (batchOf i allowance m) 0 m ws
+      → (n : ℕ)
+      → n ≤ length ws
+      → stored (take n ws) m ≡ callOf i n m .mem
+  unfolding runOf acceptedOf
+  uses-leave ws e u n h =
+      let l = few b 0 m ws (omega arith) u in
+      let all : n ≤ 5 * (endOf i - positionOf m) = omega arith in
+      rw (leave 0 m ws refl u n h, zero-add, ← (call-made i n m e), min-eq-left)
 
--- From memory that is right up to its position, as each call of a job finds it (proofs/Demand), they are the model's entries, from the first on.
-pub uses-are :
-    (i : Inputs) (m : Mem) (allowance : ℕ) (ws : List Write)
-    → Progress i m
-    → UsesFrom (batchOf i allowance m) 0 m ws
-    → ws ≡ take (length ws) (entriesOf i allowance m)
-unfolding runOf
-uses-are i m allowance ws v u =
-    let l = few (batchOf i allowance m) 0 m ws (omega arith) u in
-    rw (take-take (length ws) allowance _ (omega arith)) (rw add-zero at (entries i m allowance 0 m ws v refl u))
+  -- From memory that is right up to its position, as each call of a job finds it (proofs/Demand), they are the model's entries, from the first on.
+  pub uses-are : (ws : List Write) → Progress i m → UsesFrom (batchOf i allowance m) 0 m ws → ws ≡ take (length ws) (entriesOf i allowance m)
+  unfolding runOf
+  uses-are ws v u =
+      let l = few b 0 m ws (omega arith) u in
+      rw (take-take (length ws) allowance _ (omega arith)) (rw add-zero at (entries 0 m ws v refl u))
 
 -- And they can be made, all that are due.
 unfoldable pub usesOf : Batch → (uses n : ℕ) → Mem → List Write

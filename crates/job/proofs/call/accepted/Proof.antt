@@ -7,11 +7,9 @@ use lib.Dec.{eqb}
 use borrow.Author.Needs.{needs}
 use Rattle.pictures.specs.Shapes.{natOf}
 use Rattle.layers.specs.Inputs.{Inputs, inputsOf, jobFault}
-use Rattle.job.specs.declared.Extent.{Extent}
 use Rattle.job.specs.Memory.{Mem, memOf, positionOf}
 use Rattle.job.specs.Job.{endOf, acceptance}
 use Rattle.job.specs.Call.{madeOf, outcome}
-use Rattle.job.specs.Uses.{batchBy}
 use Rattle.job.specs.Steps.{Batch, batchOf, Midway}
 use Rattle.job.proofs.Checked.{end-is, Bounded, bounded, call-inputs, call-midway, batch-is, call-accepted}
 use Rattle.job.proofs.call.accepted.Statement.{statement}
@@ -75,15 +73,12 @@ module _ (c : tie.After-natural) where
   end : (c .natural .result + 1) * (c .before .before .width-of .result * c .before .height-of .result) ≡ endOf (inputs (start c))
   end = end-is (inputs (start c)) wide high many
 
-module _ (c : tie.After-min) where
-  abbrev s : tie.Start
-  s = begun c
+deep : (c : tie.After-min) → c .before .channels-of .result ≡ natOf (begun c .args .shape .channels)
+deep c = c .before .channels-of .ensures
 
-  made : c .min .result ≡ madeOf (inputs s) (s .args .allowance) (memory s)
-  made = rw (← end (counted c)) (c .min .ensures)
-
-  deep : c .before .channels-of .result ≡ natOf (s .args .shape .channels)
-  deep = c .before .channels-of .ensures
+-- the writes that are due
+made : (c : tie.After-min) → let s = begun c in c .min .result ≡ madeOf (inputs s) (s .args .allowance) (memory s)
+made c = rw (← end (counted c)) (c .min .ensures)
 
 -- ---- the needs
 
@@ -91,7 +86,7 @@ writes-requires : tie.Need-writes-requires
 writes-requires c κs =
     let d = c .before .before .before .before in
     let n = counted d in
-    let a = s d in
+    let a = begun d in
     let same = batch-is (inputs a) (a .args .allowance) (memory a) (fit a) _ (wide n) (high n) (deep d) (many n) refl (made d) in
     (refl, subst⁻¹ (λ (b : Batch). Midway b 0 (memory a)) same (found a _))
 
@@ -104,7 +99,7 @@ returns c =
     let w = ended c in
     let d = written w in
     let n = counted d in
-    let a = s d in
+    let a = begun d in
     let same = batch-is (inputs a) (a .args .allowance) (memory a) (fit a) _ (wide n) (high n) (deep d) (many n) refl (made d) in
     ap (outcome (left w)) (answered c) ∙ call-accepted _ _ _ same (w .writes .ensures)
 

@@ -14,17 +14,14 @@ use Rattle.pictures.proofs.Ranges.{channels-least, channels-most}
 use Rattle.compose.specs.Ready.{Ready, Span}
 use Rattle.job.specs.Job.{pixelCount, layerCount}
 use Rattle.job.specs.Uses.{batchBy}
-use Rattle.job.proofs.Buffers.{fill-first, fill-later, plan-span}
+use Rattle.job.proofs.Parts.{fill-first, fill-later, plan-span}
 use Rattle.job.proofs.fill.fill.Statement.{statement}
 use Rattle.job.proofs.fill.fill.Tie as tie
 
 -- ---- places of the code
 
-abbrev first : tie.Then1 → tie.Start
-first c = c .before .before .before .before .before .before .before
-
-abbrev start : tie.Else1 → tie.Start
-start c = c .before .before .before .before .before .before .before
+abbrev start : tie.After-slice-known → tie.Start
+start c = c .before .before .before .before .before .before
 
 abbrev later : tie.After-source-of → tie.Else1
 later c = c .before .before .before
@@ -43,7 +40,7 @@ module _ (s : tie.Start) where
 widen-requires : tie.Need-widen-requires
 unfolding natOf
 widen-requires c κs =
-    let s = first (c .before) in
+    let s = start (c .before .before) in
     let a = fit s in
     let n = s .args .extent .channels in
     let k = a .shape .deep .kind in
@@ -55,26 +52,18 @@ returns c = let w = c .before .before in w .widen .ensures ∙ fill-first _ _ _ 
 
 -- ---- a later phase: its layer, which has no fault
 
-module _ (c : tie.Else1) where
-  inside : start c .args .k - 1 < layerCount (inputs (start c))
-  inside = omega arith
+inside : (c : tie.Else1) → start (c .before) .args .k - 1 < layerCount (inputs (start (c .before)))
+inside c = omega arith
 
-good : (c : tie.After-at) → GoodLayer (length (start (c .before) .args .samples .now)) (c .at .result)
-good c = subst⁻¹ (GoodLayer _) (c .at .ensures) (fit (start (c .before)) .layer _ (inside (c .before)))
-
-plan-requires : tie.Need-plan-requires
-unfolding natOf
-plan-requires c κs =
-    let a = fit (start (c .before)) in
-    let g = good c in
-    omega (arith, channels-least _ (g .channels), channels-most _ (g .channels))
+good : (c : tie.After-at) → GoodLayer (length (start (c .before .before) .args .samples .now)) (c .at .result)
+good c = subst⁻¹ (GoodLayer _) (c .at .ensures) (fit (start (c .before .before)) .layer _ (inside (c .before)))
 
 -- what composing asks, for the work buffer that it reads
-beneath : (c : tie.After-source-of) {words : ℕ} → let s = start (later c) in let p = c .before .plan .result in words ≡ 4 * pixelCount (inputs s)
+beneath : (c : tie.After-source-of) {words : ℕ} → let s = start (later c .before) in let p = c .before .plan .result in words ≡ 4 * pixelCount (inputs s)
     → Ready p (length (c .source-of .result .now)) × Span p words 4 (s .args .from) (s .args .count) × (4 * s .args .count ≤ length (s .args .out .now))
 unfolding natOf
 beneath c e =
-    let s = start (later c) in
+    let s = start (later c .before) in
     let d = destination _ (fit s) in
     let p = c .before .plan .ensures in
     (subst⁻¹ (Ready _) (c .source-of .ensures .1) (p .ready), plan-span _ (p .made) (d .width) (d .height) e (s .pre .0 .inside), s .pre .1)
@@ -98,6 +87,7 @@ returns-3 c =
     r .span2 .ensures ∙ fill-later _ _ _ _ _ _ (later o .if1 .left) (o .before .before .at .ensures) (o .before .plan .ensures) (o .source-of .ensures .0) e
 
 pub fill-spec : {M : Type 1} → statement M
+unfolding natOf
 fill-spec =
     tie.close
     (tie.spec
@@ -105,13 +95,13 @@ fill-spec =
     (λ c. search needs)
     returns
     (λ c. search needs)
-    (λ c κs. let a = fit (start c) in omega (arith, inside c))
-    plan-requires
+    (λ c κs. let a = fit (start (c .before)) in omega (arith, inside c))
+    (λ c κs. let g = good c in let a = fit (start (c .before .before)) in omega (arith, channels-least _ (g .channels), channels-most _ (g .channels)))
     (λ c κs. good (c .before))
     (λ c. search needs)
-    (λ c κs. let o = c .before .before in beneath o (start (later o) .pre .0 .works .length0))
+    (λ c κs. let o = c .before .before in beneath o (start (later o .before) .pre .0 .works .length0))
     (λ c. search needs)
     returns-2
-    (λ c κs. let o = c .before .before in beneath o (start (later o) .pre .0 .works .length1))
+    (λ c κs. let o = c .before .before in beneath o (start (later o .before) .pre .0 .works .length1))
     (λ c. search needs)
     returns-3)

@@ -1,11 +1,11 @@
 -- `job::pixel::pixel` meets its contract.
 -- The invariant: c of the writes have been made. The measure is what is left of them. Assumes nothing.
-use Prim.Native.Nat.{_+_, _-_, _*_, _<_, _≤_}
+use Prim.Native.Nat.{_-_, _≤_}
 use mathlib.Core.Path.{refl}
 use native.Mathlib.Omega.{arith}
-use Rattle.job.specs.Memory.{Mem, memOf, positionOf}
+use Rattle.job.specs.Memory.{Mem, memOf}
 use Rattle.job.specs.Uses.{batchBy, NextUse}
-use Rattle.job.specs.Steps.{mostPosition, Batch, Midway, Ran}
+use Rattle.job.specs.Steps.{Batch, Midway, Ran}
 use Rattle.job.proofs.Checked.{bounded}
 use Rattle.job.proofs.Parts.{ran-none, ran-on, ran-as, ran-midway, ran-lengths, use-next, use-ran}
 use Rattle.job.proofs.pixel.pixel.Statement.{statement}
@@ -23,8 +23,8 @@ abbrev μ-loop : tie.MeasureT-loop
 abbrev start : tie.At-loop Inv-loop μ-loop → tie.Start Inv-loop μ-loop
 start l = l .before .before .before .before .before .before .before .before
 
-abbrev pass : tie.After-write-of Inv-loop μ-loop → tie.In-loop Inv-loop μ-loop
-pass c = c .before .before
+abbrev pass : tie.After-write-of Inv-loop μ-loop → tie.At-loop Inv-loop μ-loop
+pass c = c .before .before .before
 
 abbrev written : tie.After-store-arg4 Inv-loop μ-loop → tie.After-write-of Inv-loop μ-loop
 written c = c .before .before .before .before
@@ -44,28 +44,23 @@ module _ (l : tie.At-loop Inv-loop μ-loop) where
   midway : Midway batch (l .loop .uses) found
   midway = ran-midway (l .loop .inv .1) (start l .pre .0 .midway)
 
--- the pixel is before the picture's end, and the position before the job's
-small : (c : tie.In-loop Inv-loop μ-loop) → let a = start (c .before) .args in (4 * (a .from + a .x) < mostPosition) × (positionOf (found (c .before)) < mostPosition)
-small c =
-    let v = midway (c .before) in
-    let b = bounded _ (v .fit) refl refl refl in
-    omega arith
+-- ---- the needs
 
+-- the pixel is before the picture's end, and the position before the job's
 write-of-requires : tie.Need-write-of-requires Inv-loop μ-loop
-write-of-requires c κs = let b = small (c .before) in omega arith
+write-of-requires c κs = let b = bounded _ (midway (c .before .before) .fit) refl refl refl in let v = midway (c .before .before) in omega arith
 
 -- the call's next write
-next : (c : tie.After-write-of Inv-loop μ-loop) → let l = pass c .before in NextUse (batch l) (l .loop .uses) (found l) (c .write-of .result)
+next : (c : tie.After-write-of Inv-loop μ-loop) → let l = pass c in NextUse (batch l) (l .loop .uses) (found l) (c .write-of .result)
 next c =
-    let l = pass c .before in
+    let l = pass c in
     let s = start l in
-    let t = pass c .loop-test .taken in
-    use-next (s .pre .0) (s .pre .2) t (l .loop .inv .1) (s .pre .1 .pixel (s .args .x) (omega arith)) (c .write-of .ensures)
+    use-next (s .pre .0) (s .pre .2) (c .before .before .loop-test .taken) (l .loop .inv .1) (s .pre .1 .pixel (s .args .x) (omega arith)) (c .write-of .ensures)
 
 loop-again : tie.Need-loop-again Inv-loop μ-loop
 loop-again c =
     let w = written (used c .before) in
-    (omega arith, ran-on refl (pass w .before .loop .inv .1) (use-ran (next w) (used c .store .ensures)))
+    (omega arith, ran-on refl (pass w .loop .inv .1) (use-ran (next w) (used c .store .ensures)))
 
 returns : tie.Need-returns Inv-loop μ-loop
 returns c = let v = c .before .loop .inv in ran-as (omega arith) (v .1)

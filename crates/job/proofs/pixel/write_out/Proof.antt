@@ -38,22 +38,10 @@ begun c = start (done (ended c .before) .before)
 
 -- ---- the needs
 
-pixel-requires : tie.Need-pixel-requires Inv-loop μ-loop
-pixel-requires c κs =
-    let l = pass c .before in
-    let p = start l .pre in
-    pixel-asks (l .loop .inv .1) (l .loop .x) 5 (p .0) (p .1) (omega arith) (omega arith) (omega arith)
-
 loop-again : tie.Need-loop-again Inv-loop μ-loop
 loop-again c =
     let d = pass (written c .before) in
     (omega arith, ran-on (omega arith) (d .before .loop .inv .1) (written c .pixel .ensures))
-
-pixel-requires-2 : tie.Need-pixel-requires-2 Inv-loop μ-loop
-pixel-requires-2 c κs =
-    let l = done c .before in
-    let p = start l .pre in
-    pixel-asks (l .loop .inv .1) (start l .args .n / 5) _ (p .0) (p .1) (omega arith) (omega arith) (omega arith)
 
 returns : tie.Need-returns Inv-loop μ-loop
 returns c =
@@ -67,11 +55,11 @@ write-out-spec =
     Inv-loop
     μ-loop
     (λ c. (omega arith, ran-none))
-    pixel-requires
+    (λ c κs. let l = pass c .before in let p = start l .pre in pixel-asks (l .loop .inv .1) (l .loop .x) 5 (p .0) (p .1) (omega arith) (omega arith) (omega arith))
     (λ c. omega arith)
     (λ c. omega arith)
     loop-again
-    pixel-requires-2
+    (λ c κs. let l = done c .before in let p = start l .pre in pixel-asks (l .loop .inv .1) _ _ (p .0) (p .1) (omega arith) (omega arith) (omega arith))
     (λ c. ran-lengths (returns c) (begun c .pre .0 .midway) .0)
     (λ c. ran-lengths (returns c) (begun c .pre .0 .midway) .1)
     (λ c. ran-lengths (returns c) (begun c .pre .0 .midway) .2)

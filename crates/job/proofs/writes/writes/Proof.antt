@@ -3,16 +3,16 @@
 -- is what is left of the writes. Assumes nothing.
 use Prim.Native.Nat.{ℕ, _+_, _-_, _*_, _/_, _%_, _<_, _≤_}
 use mathlib.Core.Path.{_≡_, refl, sym}
+use native.Mathlib.Nat.{div-add-mod'}
 use native.Mathlib.Omega.{arith}
 use lib.ListN.{length}
 use Rattle.pictures.specs.Shapes.{natOf}
 use Rattle.job.specs.Memory.{Mem, memOf}
-use Rattle.job.specs.Job.{endOf}
+use Rattle.job.specs.Job.{pixelCount, phaseAt, pixelAt, endOf}
 use Rattle.job.specs.Uses.{batchBy}
-use Rattle.job.specs.Steps.{Batch, Midway, Ran}
-use Rattle.job.proofs.Checked.{Bounded, bounded, pixel-within}
-use Rattle.job.proofs.Buffers.{buffered}
-use Rattle.job.proofs.Parts.{ran-none, ran-on, ran-as, ran-midway, ran-lengths, Span, span}
+use Rattle.job.specs.Steps.{Batch, Midway, Part, Ran}
+use Rattle.job.proofs.Checked.{Bounded, bounded, phase-within, pixel-within}
+use Rattle.job.proofs.Parts.{ran-none, ran-on, ran-as, ran-midway, ran-lengths, buffered}
 use Rattle.job.proofs.writes.writes.Statement.{statement}
 use Rattle.job.proofs.writes.writes.Tie as tie
 
@@ -31,9 +31,6 @@ abbrev μ-loop : tie.MeasureT-loop
 abbrev start : tie.After-struct-known Inv-loop μ-loop → tie.Start Inv-loop μ-loop
 start c = c .before .before .before .before .before .before .before
 
-abbrev pass : tie.Then1 Inv-loop μ-loop → tie.At-loop Inv-loop μ-loop
-pass c = c .before .before
-
 abbrev split : tie.After-struct-known4 Inv-loop μ-loop → tie.Then1 Inv-loop μ-loop
 split c = c .before .before .before
 
@@ -49,45 +46,50 @@ composed c = c .before .before .before .before .before .before
 abbrev written : tie.After-slice-known6 Inv-loop μ-loop → tie.After-write-out Inv-loop μ-loop
 written c = c .before .before .before .before .before .before
 
--- ---- what holds there
+-- ---- what holds in a pass of the loop
 
-module _ (s : tie.Start Inv-loop μ-loop) where
+module _ (c : tie.Then1 Inv-loop μ-loop) where
+  abbrev l : tie.At-loop Inv-loop μ-loop
+  l = c .before .before
+
+  abbrev s : tie.Start Inv-loop μ-loop
+  s = start (l .before)
+
   abbrev batch : Batch
   batch = let a = s .args in batchBy (a .extent) (a .dst .now) (a .table .now) (a .args .now) (a .samples .now)
 
-  small : let e = s .args .extent in Bounded (e .width) (e .height) (e .layers)
-  unfolding natOf
-  small = bounded (batch .inputs) (s .pre .1 .fit) refl refl refl
-
-module _ (l : tie.At-loop Inv-loop μ-loop) where
   abbrev found : Mem
   found = memOf (l .loop .work0) (l .loop .work1) (l .loop .checkpoint)
 
-  midway : Midway (batch (start (l .before))) (l .loop .uses) found
-  midway = ran-midway (l .loop .inv .2) (start (l .before) .pre .1)
-
--- the position is before the end, and its pixel in the picture
-module _ (c : tie.Then1 Inv-loop μ-loop) where
-  abbrev b : Batch
-  b = batch (start (pass c .before))
-
   abbrev position : ℕ
-  position = b .start + pass c .loop .uses / 5
+  position = batch .start + l .loop .uses / 5
 
-  room : position < endOf (b .inputs)
+  bounds : let e = s .args .extent in Bounded (e .width) (e .height) (e .layers)
+  unfolding natOf
+  bounds = bounded (batch .inputs) (s .pre .1 .fit) refl refl refl
+
+  -- the position is before the end, and its pixel in the picture
+  room : position < endOf (batch .inputs)
   room = omega arith
 
-  inner : let e = start (pass c .before) .args .extent in position % (e .width * e .height) < e .width * e .height
+  inner : let e = s .args .extent in position % (e .width * e .height) < e .width * e .height
   unfolding natOf
-  inner = pixel-within (b .inputs) position room
+  inner = pixel-within (batch .inputs) position room
 
-  fresh : pass c .loop .uses % 5 ≡ 0
-  fresh = pass c .loop .inv .1 (c .if1 .taken)
+  fresh : l .loop .uses % 5 ≡ 0
+  fresh = l .loop .inv .1 (c .if1 .taken)
 
--- the span that is next
-next : (c : tie.After-min2 Inv-loop μ-loop) → let t = counted c in Span (b t) (pass t .loop .uses) (c .min2 .result) (found (pass t))
+  midway : Midway batch (l .loop .uses) found
+  midway = ran-midway (l .loop .inv .2) (s .pre .1)
+
+-- the span that is next: after whole pixels, writes that are due and lie in the picture at the position
+next : (c : tie.After-min2 Inv-loop μ-loop) → let t = counted c in let i = batch t .inputs in
+    Part (batch t) (l t .loop .uses) (phaseAt i (position t)) (pixelAt i (position t)) (c .min2 .result) (found t)
 unfolding natOf
-next c = let t = counted c in span (midway (pass t)) (fresh t) (t .if1 .taken) (omega arith) (omega (arith, inner t))
+next c =
+    let t = counted c in
+    let v = midway t in
+    omega (arith, fresh t, inner t, div-add-mod' (position t) (pixelCount (batch t .inputs)))
 
 -- ---- the needs
 
@@ -96,7 +98,7 @@ unfolding natOf
 write-out-requires c κs =
     let f = composed c in
     let d = asked (f .before) in
-    (next d .part, buffered (found (pass (counted d))) _ (omega arith) (f .fill .ensures))
+    (next d, buffered (found (counted d)) _ (omega arith) (f .fill .ensures))
 
 -- the buffer has kept its length
 kept : tie.Need-slice-aggregate-write-out Inv-loop μ-loop
@@ -106,10 +108,10 @@ loop-again : tie.Need-loop-again Inv-loop μ-loop
 loop-again c =
     let e = written c .write-out .ensures in
     let d = asked (composed (written c .before) .before) in
-    let l = d .min2 .ensures in
-    let l₁ = d .before .min .ensures in
+    let r = d .min2 .ensures in
+    let r₁ = d .before .min .ensures in
     let t = counted d in
-    (omega arith, λ h. omega (arith, fresh t, inner t), ran-on (omega arith) (pass t .loop .inv .2) e, sym (kept (written c .before)))
+    (omega arith, λ h. omega (arith, fresh t, inner t), ran-on (omega arith) (l t .loop .inv .2) e, sym (kept (written c .before)))
 
 returns : tie.Need-returns Inv-loop μ-loop
 returns c = let v = c .before .before .loop .inv in ran-as (omega arith) (v .2)
@@ -123,17 +125,17 @@ writes-spec =
     μ-loop
     (λ c. omega arith)
     (λ c. let z = start c .pre .0 in (omega arith, λ t. omega arith, rw z ran-none, omega arith))
-    (λ c. let t = c .before .before in omega (arith, room t, small (start (pass t .before)) .end))
+    (λ c. let t = c .before .before in omega (arith, room t, bounds t .end))
     (λ c. omega (arith, inner (c .before .before)))
     (λ c. omega (arith, inner (c .before .before)))
     (λ c. omega arith)
     (λ c. omega (arith, inner (split c)))
-    (λ c. omega (arith, small (start (pass (split c) .before)) .pixels))
+    (λ c. omega (arith, bounds (split c) .pixels))
     (λ c κs. tt)
     (λ c κs. tt)
     (λ c. omega arith)
     (λ c. omega arith)
-    (λ c κs. (next (asked c) .fillable, omega arith))
+    (λ c κs. let q = next (asked c) in let t = counted (asked c) in omega (arith, phase-within (batch t .inputs) (position t) (room t)))
     kept
     write-out-requires
     (λ c. omega (arith, inner (counted (asked (composed (written c .before) .before)))))
