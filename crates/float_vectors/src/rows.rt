@@ -1,8 +1,7 @@
 // The rows of a text: a step's letter, three operands as words (the second is a side, for a coordinate) and the result.
 ghost use mathlib.Core.Path.{_≡_};
-ghost use Prim.Native.Nat.{_<_, _≤_};
 ghost use Rattle.lent.specs.Lent.{before, after};
-ghost use Rattle.verdicts.specs.Lines.{linesOf, counted, linesCounted, placesOf};
+ghost use Rattle.verdicts.specs.Lines.{linesOf, countsFound, countsLeft, linesCounted, placesOf};
 ghost use Rattle.float_vectors.specs.Steps.{takenAt};
 use crate::steps::given;
 use vector_lines::NOWHERE;
@@ -64,7 +63,10 @@ pub fn judge(
     right: &mut [u64],
     wrong: &mut [u64],
 ) -> u64
-    ensures { λ r. ⌜ counted (after right) (after wrong) r ≡ linesCounted (before kinds) (placesOf takenAt 0 (linesOf (before text)) (before places)) 0 (linesOf (before text)) (counted (before right) (before wrong) 0) ⌝ }
+    ensures { λ r. let rows = linesOf (before text) in ⌜
+        countsLeft right wrong r
+        ≡ linesCounted (before kinds) (placesOf takenAt 0 rows (before places)) 0 rows (countsFound right wrong 0)
+        ⌝ }
 {
     replay(text, places);
     count_lines(text, places, kinds, right, wrong)

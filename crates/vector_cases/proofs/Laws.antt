@@ -1,88 +1,137 @@
--- Laws on lists that were read from a line. Assumes nothing.
+-- Laws on what is read from a line, what is called with it and how the answer is compared: one for each function and answer. Assumes nothing.
 use mathlib.Core.Path.{_≡_, refl, ap, _∙_}
 use mathlib.Core.Bool.{Bool, true, false}
 use mathlib.Core.List.{List}
-use Prim.Native.Nat.{ℕ, _<_, _≤_}
+use Prim.Native.Nat.{ℕ, _-_, _<_, _≤_}
+use native.Mathlib.Nat.{sub-zero}
+use mir.Facts.{toZ-ofZ}
+use mir.Syntax.{w64}
+use mir.Val.{SFits, toZ, ofZ}
 use lib.IntN.{ℤ, pos}
-use lib.ListN.{getD, set}
+use lib.ListN.{length, getD, set, take, replicate}
 use borrow.Author.Tests.{lt-ltb, le-ltb}
 use Rattle.vector_lines.specs.declared.numbers.Integer.{Integer}
 use Rattle.vector_lines.specs.declared.numbers.Unsigned.{Unsigned}
-use Rattle.vector_lines.specs.Numbers.{nowhere, largest, numberAt, signedAt}
-use Rattle.vector_lines.specs.Lists.{Listed, numbersAt, same, ifSame}
-use Rattle.vector_rooms.specs.declared.Shape.{Shape}
+use Rattle.vector_lines.specs.Numbers.{nowhere, largest, numberAt, expectedAt, signedAt}
+use Rattle.vector_lines.specs.Lists.{Listed, listed, numbersAt, bytesAt, wordsAt, same, ifSame}
+use Rattle.vector_lines.proofs.Reading.{signed-back}
+use Rattle.vector_rooms.specs.declared.Shaped.{Shaped}
 use Rattle.vector_rooms.specs.Rooms.{shapeAt, Layered, layered, layersAt, given, Composing, composing, withDst, withLayers, dstAt, listsAt, inputsBy}
-use Rattle.layers.specs.Inputs.{Inputs}
-use Rattle.compose.specs.Single.{composeOf}
+use Rattle.layers.specs.Inputs.{Inputs, inputsOf}
+use Rattle.compose.specs.Single.{Composed, composed, composeOf}
 use Rattle.names.specs.Names.{fromName}
-use Rattle.narrowing.specs.Narrow.{narrowOf, narrowBytesOf}
-use Rattle.tray.specs.Answers.{nameOf}
-use Rattle.vector_cases.specs.Cases.{namedAt, nameBy, listedAs, lentOf, narrowedAt, narrowedBytesAt, narrowingBy, narrowingFrom, narrowingAfter, inputAt, composedAt, composedBy, answeredAt, compositionBy, compositionAt}
+use Rattle.narrowing.specs.Narrow.{Narrowed, narrowed, narrowOf, narrowBytesOf}
+use Rattle.tray.specs.Answers.{NameAnswer, named, nameOf}
+use Rattle.vector_cases.specs.Cases.{namedAt, nameBy, nameAt, listedAs, writtenAt, lentOf, narrowedAt, narrowedBytesAt}
+use Rattle.vector_cases.specs.Cases.{narrowingBy, narrowingFrom, narrowingAfter, narrowingAt, inputAt}
+use Rattle.vector_cases.specs.Cases.{composedAt, composedBy, answeredAt, compositionBy, compositionAt}
 
-pub as-listed : {l m : Listed ℕ} (out : List ℕ) {t : Bool} → l ≡ m → t ≡ same (given l) out → ifSame t (l .next) ≡ listedAs out m
-unfolding listedAs
-as-listed out read e = rw (e, read)
+-- the inputs of a call, with the shape's numbers as they are read back from their bits
+abbrev shapeBits : Inputs → Inputs
+shapeBits i =
+    inputsOf (toZ w64 (ofZ w64 (i .width))) (toZ w64 (ofZ w64 (i .height))) (toZ w64 (ofZ w64 (i .channels))) (i .dst) (i .count) (i .table) (i .args)
+    (i .samples)
 
-pub name-listed : {l m : Listed ℕ} (line : List ℕ) → l ≡ m → namedAt line (l .next) (nameOf (fromName (given l)) 0) ≡ nameBy line m
-unfolding nameBy
-name-listed line read = rw (← read)
+module _ (line : List ℕ) where
+  -- ---- names
 
--- a narrowing, from what was read: its list, the length of its output, and what is wanted
-module _ (toBytes : Bool) (line : List ℕ) where
-  length-read : (v : ℤ) (l : Listed ℕ) (n : Unsigned) → n ≡ numberAt largest line (l .next)
-      → narrowingBy toBytes line v (given l) n ≡ narrowingFrom toBytes line v l
-  unfolding narrowingFrom
-  length-read v l n e = rw e
+  pub name-read : {list text : List ℕ} {count next r : ℕ} → listed list count next ≡ bytesAt line 1 (replicate 128 0) 0 → text ≡ take count list
+      → r ≡ namedAt line next (nameOf (fromName text) 0) → r ≡ nameAt line
+  unfolding nameBy
+  name-read read t e = rw (e, t) (ap (λ (l : Listed ℕ). nameBy line l) read)
 
-  wanted-read : (w : Integer) (input : List ℕ) (count : ℕ)
-      → narrowingFrom toBytes line (w .value) (numbersAt 4294967295 line (w .next) input count) ≡ narrowingAfter toBytes line w input count
-  unfolding narrowingAfter
-  wanted-read w input count = refl
+  pub name-answered : (at : ℕ) (due : NameAnswer) {n o p r : ℕ} → named n o ≡ due → p ≡ expectedAt line at n → r ≡ expectedAt line p o
+      → r ≡ namedAt line at due
+  name-answered at due e p r = rw (r, p, ← e)
 
-  pub narrowing-read : {w due : Integer} {l : Listed ℕ} {n : Unsigned} (input : List ℕ) (count : ℕ) → w ≡ due
-      → l ≡ numbersAt 4294967295 line (w .next) input count → n ≡ numberAt largest line (l .next)
-      → narrowingBy toBytes line (w .value) (given l) n ≡ narrowingAfter toBytes line due input count
-  narrowing-read {w} {due} {l} {n} input count e read h =
-      length-read (w .value) l n h
-      ∙ ap (λ (x : Listed ℕ). narrowingFrom toBytes line (w .value) x) read
-      ∙ wanted-read w input count
-      ∙ ap (λ (x : Integer). narrowingAfter toBytes line x input count) e
+  -- ---- outputs
 
-  -- an output that is too long, one of bytes, and one of words
-  module _ (v : ℤ) (input : List ℕ) (n : Unsigned) where
-    pub too-long : 256 < n .value → nowhere ≡ narrowingBy toBytes line v input n
-    unfolding narrowingBy
-    too-long h = rw (lt-ltb 256 (n .value) h)
+  pub compared : (most fill at : ℕ) (out : List ℕ) {list text : List ℕ} {count next r : ℕ} {t : Bool}
+      → listed list count next ≡ numbersAt most line at (replicate 256 fill) (length out) → text ≡ take count list → t ≡ same text out → r ≡ ifSame t next
+      → r ≡ writtenAt most fill line at out
+  unfolding listedAs
+  compared most fill at out read e t r = rw (r, t, e) (ap (λ (l : Listed ℕ). listedAs out l) read)
 
-    pub in-bytes : n .value ≤ 256 → toBytes ≡ true
-        → narrowedBytesAt line (n .next) (narrowBytesOf v input (lentOf 165 (n .value))) ≡ narrowingBy toBytes line v input n
-    unfolding narrowingBy
-    in-bytes h t = rw (le-ltb 256 (n .value) h, t)
+  -- ---- narrowings
 
-    pub in-words : n .value ≤ 256 → toBytes ≡ false
-        → narrowedAt line (n .next) (narrowOf v input (lentOf 2779096485 (n .value))) ≡ narrowingBy toBytes line v input n
-    unfolding narrowingBy
-    in-words h t = rw (le-ltb 256 (n .value) h, t)
+  module _ (at : ℕ) (wanted : ℤ) (input out : List ℕ) {n p r : ℕ} {o : List ℕ} (fits : SFits w64 wanted) (e : p ≡ expectedAt line at n) where
+    pub narrowed-so : narrowed n o ≡ narrowOf (toZ w64 (ofZ w64 wanted)) input out → r ≡ writtenAt 4294967295 2779096485 line p o
+        → r ≡ narrowedAt line at (narrowOf wanted input out)
+    unfolding narrowedAt
+    narrowed-so is w = rw (w, e) (ap (λ (a : Narrowed). narrowedAt line at a) (rw (toZ-ofZ fits) at is))
 
-pub input-read : (line input : List ℕ) (count : ℕ) {w : Integer} {l : Listed ℕ} → w ≡ signedAt line 1
-    → l ≡ numbersAt 4294967295 line (w .next) input count → l ≡ inputAt line input count
-input-read line input count e read = rw (← e) read
+    pub narrowed-bytes-so : narrowed n o ≡ narrowBytesOf (toZ w64 (ofZ w64 wanted)) input out → r ≡ writtenAt 255 165 line p o
+        → r ≡ narrowedBytesAt line at (narrowBytesOf wanted input out)
+    unfolding narrowedBytesAt
+    narrowed-bytes-so is w = rw (w, e) (ap (λ (a : Narrowed). narrowedBytesAt line at a) (rw (toZ-ofZ fits) at is))
 
--- a composition, from what was read
-module _ (line : List ℕ) (inputs : Inputs) {n due : Unsigned} (read : n ≡ due) where
-  pub output-too-long : 256 < n .value → nowhere ≡ composedBy line inputs due
-  unfolding composedBy
-  output-too-long h = rw (← read, lt-ltb 256 (n .value) h)
+  -- what is wanted and the input are read
+  module _ (input : List ℕ) (count : ℕ) {w : Integer} {list : List ℕ} {k next : ℕ} (e : w ≡ signedAt line 1)
+      (read : listed list k next ≡ wordsAt line (w .next) input count) where
+    input-read : listed list k next ≡ inputAt line input count
+    input-read = rw (← e) read
 
-  pub output-lent : n .value ≤ 256
-      → composedAt line (n .next) (composeOf inputs (lentOf 2779096485 (n .value))) ≡ composedBy line inputs due
-  unfolding composedBy
-  output-lent h = rw (← read, le-ltb 256 (n .value) h)
+    pub input-list : list ≡ inputAt line input count .list
+    input-list = ap (λ (l : Listed ℕ). l .list) input-read
 
-pub composition-read : (line : List ℕ) (s : Composing) {shape : Shape} {d : Listed ℕ} {y : Layered} {place : ℕ} → shape ≡ shapeAt line
-    → d ≡ numbersAt 4294967295 line (shape .next) (s .dst) (getD (s .counts) 0 0)
-    → y ≡ layersAt line (layered (d .next) (s .table) (s .args) (s .samples) (set (s .counts) 0 (d .count)))
-    → place ≡ composedBy line (inputsBy shape (pos 1) (withLayers (withDst s d) y)) (numberAt largest line (y .next))
-    → composing place (d .list) (y .table) (y .args) (y .samples) (y .counts) ≡ compositionAt line s
-unfolding compositionBy answeredAt listsAt dstAt
-composition-read line s e1 e2 e3 e4 = rw (e4, e3, e2, e1)
+    pub input-count : k ≡ inputAt line input count .count
+    input-count = ap (λ (l : Listed ℕ). l .count) input-read
+
+    -- and the length of the output, which is too long, is of bytes, or is of words
+    module _ (toBytes : Bool) {n : Unsigned} (long : n ≡ numberAt largest line next) where
+      narrowing-read : narrowingBy toBytes line (w .value) (take k list) n ≡ narrowingAt toBytes line input count
+      unfolding narrowingFrom narrowingAfter
+      narrowing-read =
+          rw long (ap (λ (l : Listed ℕ). narrowingFrom toBytes line (w .value) l) read)
+          ∙ ap (λ (x : Integer). narrowingAfter toBytes line x input count) e
+
+      pub too-long : 256 < n .value → nowhere ≡ narrowingAt toBytes line input count
+      unfolding narrowingBy
+      too-long h = rw (lt-ltb 256 (n .value) h) at narrowing-read
+
+      module _ {text : List ℕ} {r : ℕ} (short : n .value ≤ 256) (t : text ≡ take k list) where
+        pub in-bytes : toBytes ≡ true
+            → r ≡ narrowedBytesAt line (n .next) (narrowBytesOf (toZ w64 (ofZ w64 (w .value))) text (take (n .value - 0) (replicate 256 165)))
+            → r ≡ narrowingAt toBytes line input count
+        unfolding narrowingBy
+        in-bytes b is = rw (is, t, signed-back line 1 e, sub-zero (n .value), ← narrowing-read, le-ltb 256 (n .value) short, b)
+
+        pub in-words : toBytes ≡ false
+            → r ≡ narrowedAt line (n .next) (narrowOf (toZ w64 (ofZ w64 (w .value))) text (take (n .value - 0) (replicate 256 2779096485)))
+            → r ≡ narrowingAt toBytes line input count
+        unfolding narrowingBy
+        in-words b is = rw (is, t, signed-back line 1 e, sub-zero (n .value), ← narrowing-read, le-ltb 256 (n .value) short, b)
+
+  -- ---- compositions
+
+  module _ (inputs : Inputs) (at : ℕ) {n : Unsigned} (long : n ≡ numberAt largest line at) where
+    pub output-too-long : 256 < n .value → nowhere ≡ composedBy line inputs (numberAt largest line at)
+    unfolding composedBy
+    output-too-long h = rw (← long, lt-ltb 256 (n .value) h)
+
+    pub output-lent : {r : ℕ} → n .value ≤ 256 → r ≡ composedAt line (n .next) (composeOf inputs (take (n .value - 0) (replicate 256 2779096485)))
+        → r ≡ composedBy line inputs (numberAt largest line at)
+    unfolding composedBy
+    output-lent h e = rw (← long, le-ltb 256 (n .value) h, e, sub-zero (n .value))
+
+  pub composed-so : (at : ℕ) (i : Inputs) (out : List ℕ) {n p r : ℕ} {o : List ℕ} → SFits w64 (i .width) → SFits w64 (i .height) → SFits w64 (i .channels)
+      → composed n o ≡ composeOf (shapeBits i) out → p ≡ expectedAt line at n → r ≡ writtenAt 4294967295 2779096485 line p o
+      → r ≡ composedAt line at (composeOf i out)
+  composed-so at i out fw fh fc is e w = rw (w, e) (ap (λ (a : Composed). composedAt line at a) (rw (toZ-ofZ fw, toZ-ofZ fh, toZ-ofZ fc) at is))
+
+  composition-of : (s : Composing) {shape : Shaped} {d : Listed ℕ} {y : Layered} {place : ℕ} → shape ≡ shapeAt line
+      → d ≡ wordsAt line (shape .next) (s .dst) (getD (s .counts) 0 0)
+      → y ≡ layersAt line (layered (d .next) (s .table) (s .args) (s .samples) (set (s .counts) 0 (d .count)))
+      → place ≡ composedBy line (inputsBy shape (pos 1) (withLayers (withDst s d) y)) (numberAt largest line (y .next))
+      → composing place (d .list) (y .table) (y .args) (y .samples) (y .counts) ≡ compositionAt line s
+  unfolding compositionBy answeredAt listsAt dstAt
+  composition-of s e1 e2 e3 e4 = rw (e4, e3, e2, e1)
+
+  pub composition-read : (dst args samples counts : List ℕ) (table : List ℤ) {shape : Shaped} {d a s c fd fa fs : List ℕ} {t ft : List ℤ} {m p q place : ℕ}
+      → shape ≡ shapeAt line → listed d m p ≡ wordsAt line (shape .next) dst (getD counts 0 0)
+      → layered q t a s c ≡ layersAt line (layered p table args samples (set counts 0 m))
+      → fd ≡ take (getD c 0 0) d → ft ≡ take (getD c 1 0) t → fa ≡ take (getD c 2 0) a → fs ≡ take (getD c 3 0) s
+      → place ≡ composedBy line (inputsOf (shape .width) (shape .height) (shape .channels) fd (pos 1) ft fa fs) (numberAt largest line q)
+      → composing place d t a s c ≡ compositionAt line (composing 0 dst table args samples counts)
+  composition-read dst args samples counts table e1 e2 e3 d t a s e4 =
+      composition-of (composing 0 dst table args samples counts) e1 e2 e3 (rw (d, t, a, s) at e4)

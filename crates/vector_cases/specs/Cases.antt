@@ -8,8 +8,8 @@ use lib.ListN.{length, take, replicate}
 use Rattle.vector_lines.specs.declared.numbers.Integer.{Integer}
 use Rattle.vector_lines.specs.declared.numbers.Unsigned.{Unsigned}
 use Rattle.vector_lines.specs.Numbers.{nowhere, largest, numberAt, expectedAt, signedAt}
-use Rattle.vector_lines.specs.Lists.{Listed, numbersAt, same, ifSame}
-use Rattle.vector_rooms.specs.declared.Shape.{Shape}
+use Rattle.vector_lines.specs.Lists.{Listed, numbersAt, bytesAt, wordsAt, same, ifSame}
+use Rattle.vector_rooms.specs.declared.Shaped.{Shaped}
 use Rattle.vector_rooms.specs.Rooms.{given, shapeAt, Composing, composing, dstAt, listsAt, inputsBy}
 use Rattle.names.specs.Names.{fromName}
 use Rattle.narrowing.specs.Narrow.{Narrowed, narrowOf, narrowBytesOf}
@@ -28,7 +28,7 @@ unfoldable pub nameBy : List ℕ → Listed ℕ → ℕ
 nameBy line text = namedAt line (text .next) (nameOf (fromName (given text)) 0)
 
 abbrev pub nameAt : List ℕ → ℕ
-nameAt line = nameBy line (numbersAt 255 line 1 (replicate 128 0) 0)
+nameAt line = nameBy line (bytesAt line 1 (replicate 128 0) 0)
 
 -- ---- outputs
 
@@ -71,11 +71,11 @@ narrowingFrom toBytes line wanted input = narrowingBy toBytes line wanted (given
 
 unfoldable pub narrowingAfter : (toBytes : Bool) → List ℕ → Integer → List ℕ → ℕ → ℕ
 narrowingAfter toBytes line wanted input count =
-    narrowingFrom toBytes line (wanted .value) (numbersAt 4294967295 line (wanted .next) input count)
+    narrowingFrom toBytes line (wanted .value) (wordsAt line (wanted .next) input count)
 
 -- INPUT, which is kept
 abbrev pub inputAt : List ℕ → List ℕ → ℕ → Listed ℕ
-inputAt line = numbersAt 4294967295 line (signedAt line 1 .next)
+inputAt line = wordsAt line (signedAt line 1 .next)
 
 abbrev pub narrowingAt : (toBytes : Bool) → List ℕ → List ℕ → ℕ → ℕ
 narrowingAt toBytes line = narrowingAfter toBytes line (signedAt line 1)
@@ -91,11 +91,11 @@ composedBy line inputs length =
     cond (ltb 256 (length .value)) nowhere (composedAt line (length .next) (composeOf inputs (lentOf 2779096485 (length .value))))
 
 -- C width height channels DST TABLE ARGS SAMPLES length: number OUT
-unfoldable pub answeredAt : List ℕ → Shape → Composing → Composing
+unfoldable pub answeredAt : List ℕ → Shaped → Composing → Composing
 answeredAt line shape s =
     composing (composedBy line (inputsBy shape (pos 1) s) (numberAt largest line (s .next))) (s .dst) (s .table) (s .args) (s .samples) (s .counts)
 
-unfoldable pub compositionBy : List ℕ → Shape → Composing → Composing
+unfoldable pub compositionBy : List ℕ → Shaped → Composing → Composing
 compositionBy line shape s =
     answeredAt line shape (listsAt line (dstAt line (composing (shape .next) (s .dst) (s .table) (s .args) (s .samples) (s .counts))))
 

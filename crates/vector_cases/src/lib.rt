@@ -6,11 +6,11 @@ ghost use Rattle.lent.specs.Lent.{before, after};
 ghost use Rattle.vector_lines.specs.Numbers.{largest, numberAt};
 ghost use Rattle.names.specs.Names.{fromName};
 ghost use Rattle.narrowing.specs.Narrow.{narrowOf, narrowBytesOf};
-ghost use Rattle.layers.specs.Inputs.{inputsOf};
 ghost use Rattle.compose.specs.Single.{composeOf};
 ghost use Rattle.tray.specs.Answers.{nameOf};
-ghost use Rattle.vector_rooms.specs.Rooms.{composing};
-ghost use Rattle.vector_cases.specs.Cases.{nameAt, namedAt, writtenAt, narrowingAt, narrowedAt, narrowedBytesAt, inputAt, composedAt, composedBy, compositionAt};
+ghost use Rattle.vector_rooms.specs.Rooms.{listsFound, listsLeft, inputsIn};
+ghost use Rattle.vector_cases.specs.Cases.{nameAt, namedAt, writtenAt, narrowingAt, narrowedAt, narrowedBytesAt};
+ghost use Rattle.vector_cases.specs.Cases.{inputAt, composedAt, composedBy, compositionAt};
 use vector_lines::NOWHERE;
 use vector_lines::bytes;
 use vector_lines::expect;
@@ -31,7 +31,7 @@ use vector_rooms::Counts;
 use vector_rooms::OUT;
 use vector_rooms::Picture;
 use vector_rooms::Samples;
-use vector_rooms::Shape;
+use vector_rooms::Shaped;
 use vector_rooms::Table;
 use vector_rooms::layers;
 use vector_rooms::shape_of;
@@ -123,7 +123,10 @@ pub fn composition(
     samples: &mut Samples,
     counts: &mut Counts,
 ) -> usize
-    ensures { λ r. ⌜ composing r (after dst) (after table) (after args) (after samples) (after counts) ≡ compositionAt (before line) (composing 0 (before dst) (before table) (before args) (before samples) (before counts)) ⌝ }
+    ensures { λ r. ⌜
+        listsLeft r dst table args samples counts
+        ≡ compositionAt (before line) (listsFound 0 dst table args samples counts)
+        ⌝ }
 {
     let shape = shape_of(line);
     let after_dst = words(line, shape.next, dst, &mut counts[AT_DST]);
@@ -142,13 +145,15 @@ pub fn composition(
 fn composed(
     line: &[u8],
     at: usize,
-    shape: Shape,
+    shape: Shaped,
     dst: &[u32],
     table: &[i64],
     args: &[u32],
     samples: &[u32],
 ) -> usize
-    ensures { λ r. ⌜ r ≡ composedBy (before line) (inputsOf (shape .width) (shape .height) (shape .channels) (before dst) (pos 1) (before table) (before args) (before samples)) (numberAt largest (before line) at) ⌝ }
+    ensures { λ r. ⌜
+        r ≡ composedBy (before line) (inputsIn shape dst (pos 1) table args samples) (numberAt largest (before line) at)
+        ⌝ }
 {
     let length = number(line, at);
     if length.value > OUT as u64 {
@@ -171,14 +176,16 @@ fn composed(
 fn composed_in(
     line: &[u8],
     at: usize,
-    shape: Shape,
+    shape: Shaped,
     dst: &[u32],
     table: &[i64],
     args: &[u32],
     samples: &[u32],
     out: &mut [u32],
 ) -> usize
-    ensures { λ r. ⌜ r ≡ composedAt (before line) at (composeOf (inputsOf (shape .width) (shape .height) (shape .channels) (before dst) (pos 1) (before table) (before args) (before samples)) (before out)) ⌝ }
+    ensures { λ r. ⌜
+        r ≡ composedAt (before line) at (composeOf (inputsIn shape dst (pos 1) table args samples) (before out))
+        ⌝ }
 {
     let answer = tray::tray_compose(
         shape.width,

@@ -5,11 +5,12 @@ use Prim.Native.Nat.{ℕ}
 use lib.Dec.{ltb}
 use lib.IntN.{ℤ}
 use lib.ListN.{length, getD, take, drop, replicate}
+use Rattle.lent.specs.Lent.{Lent, after}
 use Rattle.vector_lines.specs.declared.numbers.Integer.{Integer}
-use Rattle.vector_lines.specs.Numbers.{nowhere, largest, expectedAt, signedAt}
-use Rattle.vector_lines.specs.Lists.{Listed, numbersAt}
-use Rattle.vector_rooms.specs.declared.Shape.{Shape}
-use Rattle.vector_rooms.specs.Rooms.{shapeAt, Worked, worked, memoryAt, leftAt, given, Composing, composing, dstAt, listsAt, inputsBy}
+use Rattle.vector_lines.specs.Numbers.{nowhere, expectedAt, signedAt}
+use Rattle.vector_lines.specs.Lists.{Listed, longsAt}
+use Rattle.vector_rooms.specs.declared.Shaped.{Shaped}
+use Rattle.vector_rooms.specs.Rooms.{given, shapeAt, Composing, composing, dstAt, listsAt, inputsBy, Worked, worked, memoryLeft, memoryAt, leftAt}
 use Rattle.layers.specs.Inputs.{Inputs}
 use Rattle.job.specs.Memory.{Mem, memOf, positionOf}
 use Rattle.job.specs.Call.{callOf}
@@ -20,17 +21,17 @@ pub record Played : Type 0 where
   pub next : ℕ
   pub mem : Mem
 
-abbrev pub played : ℕ → List ℕ → List ℕ → List ℕ → Played
-played next work0 work1 mark = record { next = next; mem = memOf work0 work1 mark }
+abbrev pub played : ℕ → Mem → Played
+played next mem = record { next = next; mem = mem }
 
 -- number layer stores finished mark
 unfoldable pub outcomeAt : List ℕ → ℕ → HostOutcome → Played
-outcomeAt line at o = record {
-  next = expectedAt line
-      (expectedAt line (expectedAt line (expectedAt line (expectedAt line at (o .number)) (o .layer)) (o .stores)) (o .finished))
-      (positionOf (o .mem));
-  mem = o .mem;
-}
+outcomeAt line at o =
+    played
+    (expectedAt line
+    (expectedAt line (expectedAt line (expectedAt line (expectedAt line at (o .number)) (o .layer)) (o .stores)) (o .finished))
+    (positionOf (o .mem)))
+    (o .mem)
 
 -- a call, and the calls one after the other
 abbrev pub callAt : List ℕ → Inputs → ℕ → Played → Played
@@ -43,34 +44,41 @@ callsAt line inputs (allowance ∷ rest) p = callsAt line inputs rest (callAt li
 -- ---- a line of a job
 
 -- the parts of the lists that are lent, as many elements as each list's count says, and the lists once the parts are back
-abbrev pub lentOn : (counts : List ℕ) → Played → Played
-lentOn counts p =
-    played (p .next) (take (getD counts 5 0) (p .mem .work0)) (take (getD counts 6 0) (p .mem .work1)) (take (getD counts 7 0) (p .mem .checkpoint))
+abbrev pub lentOn : (counts : List ℕ) → Mem → Mem
+lentOn counts m = memOf (take (getD counts 5 0) (m .work0)) (take (getD counts 6 0) (m .work1)) (take (getD counts 7 0) (m .checkpoint))
 
-abbrev pub backOn : (counts : List ℕ) → Played → Played → Played
-backOn counts p q =
-    played (q .next)
-    (q .mem .work0 ++ drop (getD counts 5 0) (p .mem .work0))
-    (q .mem .work1 ++ drop (getD counts 6 0) (p .mem .work1))
-    (q .mem .checkpoint ++ drop (getD counts 7 0) (p .mem .checkpoint))
+abbrev pub backOn : (counts : List ℕ) → Mem → Mem → Mem
+backOn counts m part =
+    memOf
+    (part .work0 ++ drop (getD counts 5 0) (m .work0))
+    (part .work1 ++ drop (getD counts 6 0) (m .work1))
+    (part .checkpoint ++ drop (getD counts 7 0) (m .checkpoint))
+
+abbrev pub backFrom : (counts : List ℕ) → Mem → Played → Played
+backFrom counts m p = played (p .next) (backOn counts m (p .mem))
 
 -- no call is made where a count is more than there is room for
 unfoldable pub calledAt : List ℕ → Inputs → (allowances counts : List ℕ) → Played → Played
 calledAt line inputs allowances counts p =
-    cond (ltb (length (p .mem .work0)) (getD counts 5 0) || ltb (length (p .mem .work1)) (getD counts 6 0) || ltb (length (p .mem .checkpoint)) (getD counts 7 0))
-    (played nowhere (p .mem .work0) (p .mem .work1) (p .mem .checkpoint))
-    (backOn counts p (callsAt line inputs allowances (lentOn counts p)))
+    cond
+    (ltb (length (p .mem .work0)) (getD counts 5 0)
+    || ltb (length (p .mem .work1)) (getD counts 6 0)
+    || ltb (length (p .mem .checkpoint)) (getD counts 7 0))
+    (played nowhere (p .mem))
+    (backFrom counts (p .mem) (callsAt line inputs allowances (played (p .next) (lentOn counts (p .mem)))))
 
 -- the calls, and after them the memory that they must leave; '=' there is the memory before them
 unfoldable pub leftOn : List ℕ → Worked → Played → Worked
-leftOn line w p = leftAt line (worked (p .next) (w .work0) (w .work1) (w .mark) (w .counts)) (p .mem .work0) (p .mem .work1) (p .mem .checkpoint)
+leftOn line w p =
+    leftAt line (worked (p .next) (w .work0) (w .work1) (w .checkpoint) (w .counts)) (p .mem .work0) (p .mem .work1) (p .mem .checkpoint)
 
 unfoldable pub calledOn : List ℕ → Inputs → Worked → Listed ℕ → Worked
 calledOn line inputs w allowances =
-    leftOn line w (calledAt line inputs (given allowances) (w .counts) (played (allowances .next) (w .work0) (w .work1) (w .mark)))
+    leftOn line w
+    (calledAt line inputs (given allowances) (w .counts) (played (allowances .next) (memOf (w .work0) (w .work1) (w .checkpoint))))
 
 unfoldable pub allowedAt : List ℕ → Inputs → Worked → Worked
-allowedAt line inputs w = calledOn line inputs w (numbersAt largest line (w .next) (replicate 16 0) 0)
+allowedAt line inputs w = calledOn line inputs w (longsAt line (w .next) (replicate 16 0) 0)
 
 -- WORK0 WORK1 MARK ALLOWANCES: the calls' answers, WORK0 WORK1 MARK
 abbrev pub playedAt : List ℕ → Inputs → Worked → Worked
@@ -87,18 +95,23 @@ pub record Jobbed : Type 0 where
 abbrev pub jobbed : List ℕ → List ℤ → (args samples : List ℕ) → Worked → Jobbed
 jobbed dst table args samples work = record { dst = dst; table = table; args = args; samples = samples; work = work }
 
-unfoldable pub jobOn : List ℕ → Shape → ℤ → Composing → Mem → Jobbed
-jobOn line shape layers s m =
-    jobbed (s .dst) (s .table) (s .args) (s .samples) (playedAt line (inputsBy shape layers s) (worked (s .next) (m .work0) (m .work1) (m .checkpoint) (s .counts)))
+abbrev pub jobLeft : ℕ → Lent (List ℕ) → Lent (List ℤ) → (args samples work0 work1 checkpoint counts : Lent (List ℕ)) → Jobbed
+jobLeft next dst table args samples work0 work1 checkpoint counts =
+    jobbed (after dst) (after table) (after args) (after samples) (memoryLeft next work0 work1 checkpoint counts)
 
-unfoldable pub jobWith : List ℕ → Shape → Composing → Mem → Integer → Jobbed
+unfoldable pub jobOn : List ℕ → Shaped → ℤ → Composing → Mem → Jobbed
+jobOn line shape layers s m =
+    jobbed (s .dst) (s .table) (s .args) (s .samples)
+    (playedAt line (inputsBy shape layers s) (worked (s .next) (m .work0) (m .work1) (m .checkpoint) (s .counts)))
+
+unfoldable pub jobWith : List ℕ → Shaped → Composing → Mem → Integer → Jobbed
 jobWith line shape s m layers =
     jobOn line shape (layers .value) (listsAt line (composing (layers .next) (s .dst) (s .table) (s .args) (s .samples) (s .counts))) m
 
-unfoldable pub jobFrom : List ℕ → Shape → Composing → Mem → Jobbed
+unfoldable pub jobFrom : List ℕ → Shaped → Composing → Mem → Jobbed
 jobFrom line shape s m = jobWith line shape s m (signedAt line (s .next))
 
-unfoldable pub jobBy : List ℕ → Shape → Composing → Mem → Jobbed
+unfoldable pub jobBy : List ℕ → Shaped → Composing → Mem → Jobbed
 jobBy line shape s m = jobFrom line shape (dstAt line (composing (shape .next) (s .dst) (s .table) (s .args) (s .samples) (s .counts))) m
 
 -- J width height channels DST layers TABLE ARGS SAMPLES, and the above

@@ -1,11 +1,10 @@
-// The lines of jobs: calls one after the other on the same work buffers and mark.
+// The lines of jobs: calls one after the other on the same work buffers and checkpoint.
 ghost use mathlib.Core.Path.{_≡_};
 ghost use lib.ListN.{getD};
-ghost use Rattle.lent.specs.Lent.{before, after};
-ghost use Rattle.vector_rooms.specs.Rooms.{worked, composing};
-ghost use Rattle.layers.specs.Inputs.{inputsOf};
-ghost use Rattle.job.specs.Memory.{memOf};
-ghost use Rattle.vector_jobs.specs.Jobs.{played, callAt, callsAt, calledAt, playedAt, jobbed, jobAt};
+ghost use Rattle.lent.specs.Lent.{before};
+ghost use Rattle.vector_rooms.specs.Rooms.{listsFound, memoryFound, memoryLeft, inputsIn};
+ghost use Rattle.job.specs.Memory.{found, left};
+ghost use Rattle.vector_jobs.specs.Jobs.{played, callAt, callsAt, calledAt, playedAt, jobLeft, jobAt};
 use vector_lines::NOWHERE;
 use vector_lines::expect;
 use vector_lines::first_integers;
@@ -15,21 +14,21 @@ use vector_lines::longs;
 use vector_lines::signed;
 use vector_lines::words;
 use vector_rooms::AT_ARGS;
+use vector_rooms::AT_CHECKPOINT;
 use vector_rooms::AT_DST;
-use vector_rooms::AT_MARK;
 use vector_rooms::AT_SAMPLES;
 use vector_rooms::AT_TABLE;
 use vector_rooms::AT_WORK0;
 use vector_rooms::AT_WORK1;
 use vector_rooms::Args;
+use vector_rooms::Checkpoint;
 use vector_rooms::Counts;
-use vector_rooms::Mark;
 use vector_rooms::Picture;
 use vector_rooms::Samples;
-use vector_rooms::Shape;
+use vector_rooms::Shaped;
 use vector_rooms::Table;
+use vector_rooms::all_left;
 use vector_rooms::layers;
-use vector_rooms::left;
 use vector_rooms::memory;
 use vector_rooms::shape_of;
 
@@ -42,10 +41,13 @@ pub fn job(
     samples: &mut Samples,
     work0: &mut Picture,
     work1: &mut Picture,
-    mark: &mut Mark,
+    checkpoint: &mut Checkpoint,
     counts: &mut Counts,
 ) -> usize
-    ensures { λ r. ⌜ jobbed (after dst) (after table) (after args) (after samples) (worked r (after work0) (after work1) (after mark) (after counts)) ≡ jobAt (before line) (composing 0 (before dst) (before table) (before args) (before samples) (before counts)) (memOf (before work0) (before work1) (before mark)) ⌝ }
+    ensures { λ r. ⌜
+        jobLeft r dst table args samples work0 work1 checkpoint counts
+        ≡ jobAt (before line) (listsFound 0 dst table args samples counts) (found work0 work1 checkpoint)
+        ⌝ }
 {
     let shape = shape_of(line);
     let after_dst = words(line, shape.next, dst, &mut counts[AT_DST]);
@@ -66,7 +68,7 @@ pub fn job(
         first_words(samples, samples_count),
         work0,
         work1,
-        mark,
+        checkpoint,
         counts,
     )
 }
@@ -75,7 +77,7 @@ pub fn job(
 fn played(
     line: &[u8],
     at: usize,
-    shape: Shape,
+    shape: Shaped,
     dst: &[u32],
     layers: i64,
     table: &[i64],
@@ -83,18 +85,21 @@ fn played(
     samples: &[u32],
     work0: &mut Picture,
     work1: &mut Picture,
-    mark: &mut Mark,
+    checkpoint: &mut Checkpoint,
     counts: &mut Counts,
 ) -> usize
-    ensures { λ r. ⌜ worked r (after work0) (after work1) (after mark) (after counts) ≡ playedAt (before line) (inputsOf (shape .width) (shape .height) (shape .channels) (before dst) layers (before table) (before args) (before samples)) (worked at (before work0) (before work1) (before mark) (before counts)) ⌝ }
+    ensures { λ r. let inputs = inputsIn shape dst layers table args samples in ⌜
+        memoryLeft r work0 work1 checkpoint counts
+        ≡ playedAt (before line) inputs (memoryFound at work0 work1 checkpoint counts)
+        ⌝ }
 {
-    let after_memory = memory(line, at, work0, work1, mark, counts);
+    let after_memory = memory(line, at, work0, work1, checkpoint, counts);
     let mut allowances = [0u64; 16];
     let mut calls: usize = 0;
     let after_allowances = longs(line, after_memory, &mut allowances, &mut calls);
     let mut due0 = *work0;
     let mut due1 = *work1;
-    let mut due_mark = *mark;
+    let mut due_checkpoint = *checkpoint;
     let after_calls = called(
         line,
         after_allowances,
@@ -107,18 +112,18 @@ fn played(
         first_longs(&allowances, calls),
         work0,
         work1,
-        mark,
+        checkpoint,
         counts,
     );
-    left(
+    all_left(
         line,
         after_calls,
         &mut due0,
         &mut due1,
-        &mut due_mark,
+        &mut due_checkpoint,
         work0,
         work1,
-        mark,
+        checkpoint,
         counts,
     )
 }
@@ -127,7 +132,7 @@ fn played(
 fn called(
     line: &[u8],
     at: usize,
-    shape: Shape,
+    shape: Shaped,
     dst: &[u32],
     layers: i64,
     table: &[i64],
@@ -136,21 +141,24 @@ fn called(
     allowances: &[u64],
     work0: &mut [u32],
     work1: &mut [u32],
-    mark: &mut [u64],
+    checkpoint: &mut [u64],
     counts: &Counts,
 ) -> usize
-    ensures { λ r. ⌜ played r (after work0) (after work1) (after mark) ≡ calledAt (before line) (inputsOf (shape .width) (shape .height) (shape .channels) (before dst) layers (before table) (before args) (before samples)) (before allowances) (before counts) (played at (before work0) (before work1) (before mark)) ⌝ }
+    ensures { λ r. let inputs = inputsIn shape dst layers table args samples in ⌜
+        played r (left work0 work1 checkpoint)
+        ≡ calledAt (before line) inputs (before allowances) (before counts) (played at (found work0 work1 checkpoint))
+        ⌝ }
 {
     let n0 = counts[AT_WORK0];
     let n1 = counts[AT_WORK1];
-    let n = counts[AT_MARK];
+    let n = counts[AT_CHECKPOINT];
     if n0 > work0.len() {
         return NOWHERE;
     }
     if n1 > work1.len() {
         return NOWHERE;
     }
-    if n > mark.len() {
+    if n > checkpoint.len() {
         return NOWHERE;
     }
     calls_on(
@@ -165,14 +173,14 @@ fn called(
         allowances,
         &mut work0[0..n0],
         &mut work1[0..n1],
-        &mut mark[0..n],
+        &mut checkpoint[0..n],
     )
 }
 
 fn calls_on(
     line: &[u8],
     from: usize,
-    shape: Shape,
+    shape: Shaped,
     dst: &[u32],
     layers: i64,
     table: &[i64],
@@ -181,9 +189,12 @@ fn calls_on(
     allowances: &[u64],
     work0: &mut [u32],
     work1: &mut [u32],
-    mark: &mut [u64],
+    checkpoint: &mut [u64],
 ) -> usize
-    ensures { λ r. ⌜ played r (after work0) (after work1) (after mark) ≡ callsAt (before line) (inputsOf (shape .width) (shape .height) (shape .channels) (before dst) layers (before table) (before args) (before samples)) (before allowances) (played from (before work0) (before work1) (before mark)) ⌝ }
+    ensures { λ r. let inputs = inputsIn shape dst layers table args samples in ⌜
+        played r (left work0 work1 checkpoint)
+        ≡ callsAt (before line) inputs (before allowances) (played from (found work0 work1 checkpoint))
+        ⌝ }
 {
     let mut at = from;
     let mut i = 0;
@@ -202,7 +213,7 @@ fn calls_on(
             allowance,
             work0,
             work1,
-            mark,
+            checkpoint,
         );
     }
     at
@@ -212,7 +223,7 @@ fn calls_on(
 fn call(
     line: &[u8],
     at: usize,
-    shape: Shape,
+    shape: Shaped,
     dst: &[u32],
     layers: i64,
     table: &[i64],
@@ -221,9 +232,12 @@ fn call(
     allowance: u64,
     work0: &mut [u32],
     work1: &mut [u32],
-    mark: &mut [u64],
+    checkpoint: &mut [u64],
 ) -> usize
-    ensures { λ r. ⌜ played r (after work0) (after work1) (after mark) ≡ callAt (before line) (inputsOf (shape .width) (shape .height) (shape .channels) (before dst) layers (before table) (before args) (before samples)) allowance (played at (before work0) (before work1) (before mark)) ⌝ }
+    ensures { λ r. let inputs = inputsIn shape dst layers table args samples in ⌜
+        played r (left work0 work1 checkpoint)
+        ≡ callAt (before line) inputs allowance (played at (found work0 work1 checkpoint))
+        ⌝ }
 {
     let mut layer: u64 = 0;
     let mut stores: u64 = 0;
@@ -240,22 +254,22 @@ fn call(
         allowance,
         work0,
         work1,
-        mark,
+        checkpoint,
         &mut layer,
         &mut stores,
         &mut finished,
     );
     let after_answer = expect(line, expect(line, at, answer), layer);
     let after_count = expect(line, expect(line, after_answer, stores), finished);
-    expect(line, after_count, position(mark))
+    expect(line, after_count, position(checkpoint))
 }
 
-// The mark as a line shows it: the first number of its list, 0 where there is none.
-fn position(mark: &[u64]) -> u64
-    ensures { λ r. ⌜ r ≡ getD (before mark) 0 0 ⌝ }
+// The checkpoint as a line shows it: the first number of its list, 0 where there is none.
+fn position(checkpoint: &[u64]) -> u64
+    ensures { λ r. ⌜ r ≡ getD (before checkpoint) 0 0 ⌝ }
 {
-    if 0 < mark.len() {
-        return mark[0];
+    if 0 < checkpoint.len() {
+        return checkpoint[0];
     }
     0
 }

@@ -6,14 +6,12 @@ use Prim.Native.Nat.{ℕ, suc, _+_, _*_, _<_, _≤_}
 use native.Mathlib.Nat.{add-zero}
 use native.Mathlib.Numerals.{add-one}
 use native.Mathlib.Omega.{arith}
-use mir.Val.{SFits}
-use mir.Syntax.{w64}
 use lib.Dec.{eqb, ltb}
 use lib.ListN.{length, drop, drop-of-length-le, List·getD-eq-default}
 use lib.Seq.{drop-cons}
 use borrow.Author.Tests.{lt-ltb, le-ltb, ltb-true, ltb-false, ne-eqb}
 use Rattle.vector_lines.specs.declared.numbers.Unsigned.{Unsigned}
-use Rattle.vector_lines.specs.Numbers.{byteOf, digitOf, digitsOf, valueOf, largest, none, upTo, goneOn, spelt, digitsAt, shortAt, tokenAt, afterOf, mostSigned, complementOf, integerOf, signedAt}
+use Rattle.vector_lines.specs.Numbers.{byteOf, digitOf, digitsOf, valueOf, largest, none, goneOn, spelt, digitsAt}
 
 zero-byte : digitOf 0 ≡ 16
 unfolding digitOf
@@ -58,84 +56,79 @@ module _ (line : List ℕ) (at d : ℕ) (here : d ≡ digitOf (byteOf line at)) 
           absurd (omega (arith, h, past))
 
   -- a digit is the first of those that are left
-  pub one-more : d < 16 → digitsOf (drop at line) ≡ d ∷ digitsOf (drop (at + 1) line)
+  one-more : d < 16 → digitsOf (drop at line) ≡ d ∷ digitsOf (drop (at + 1) line)
   one-more h = rw (add-one, drop-cons line at 0 (in-line h), here) (first-digit (byteOf line at) _ (rw (← here) h))
 
   -- where there is no digit, none is left
-  pub no-more : 16 ≤ d → digitsOf (drop at line) ≡ []
+  no-more : 16 ≤ d → digitsOf (drop at line) ≡ []
   no-more h = go (ltb at (length line)) refl
     where
       go : (t : Bool) → ltb at (length line) ≡ t → digitsOf (drop at line) ≡ []
       go true e = rw (drop-cons line at 0 (ltb-true _ _ e)) (no-first (byteOf line at) _ (rw (← here) h))
       go false e = rw (drop-of-length-le line (ltb-false at (length line) e)) nothing-left
 
-  -- what is left after a digit spells the same and ends at the same place
-  pub same-value : (v : ℕ) → d < 16 → valueOf v (digitsOf (drop at line)) ≡ valueOf (v * 16 + d) (digitsOf (drop (at + 1) line))
-  same-value v h = rw (one-more h) (value-step v _ _)
-
-  pub same-end : d < 16 → at + length (digitsOf (drop at line)) ≡ (at + 1) + length (digitsOf (drop (at + 1) line))
-  same-end h = rw (one-more h) (omega arith)
-
-  -- v is what the digits from `start` on spell as far as this place, after `first`
-  module _ (start first v : ℕ) (spells : valueOf first (digitsOf (drop start line)) ≡ valueOf v (digitsOf (drop at line))) where
-    -- one more digit is more than 64 binary digits
-    pub too-long : d < 16 → 1152921504606846975 < v → none ≡ goneOn line start first
-    too-long h long =
-        let less = no-less (v * 16 + d) (digitsOf (drop (at + 1) line)) in
-        let same = spells ∙ same-value v h in
-        rw (lt-ltb largest (valueOf first (digitsOf (drop start line))) (omega (arith, less, same, long)))
-
-    pub ended : start + length (digitsOf (drop start line)) ≡ at + length (digitsOf (drop at line)) → 16 ≤ d
-        → v ≤ largest → _≡_ {A = Unsigned} (record { value = v; next = at }) (goneOn line start first)
-    ended measures h fits = rw (measures, spells, no-more h, value-end v, add-zero, le-ltb largest v fits)
-
   -- the number at this place: its first digit, and those after it
-  pub from-first : d < 16 → digitsAt line at ≡ cond (eqb d 0 && ltb 0 (length (digitsOf (drop (at + 1) line)))) none (goneOn line (at + 1) d)
+  from-first : d < 16 → digitsAt line at ≡ cond (eqb d 0 && ltb 0 (length (digitsOf (drop (at + 1) line)))) none (goneOn line (at + 1) d)
   unfolding spelt
   from-first h = rw (one-more h)
 
-  pub no-digits : 16 ≤ d → none ≡ digitsAt line at
+  pub no-digits : {n : Unsigned} → 16 ≤ d → n ≡ none → n ≡ digitsAt line at
   unfolding spelt
-  no-digits h = rw (no-more h)
+  no-digits h e = rw (e, no-more h)
 
--- a number of which d is the first digit and e what stands after it
-module _ (line : List ℕ) (at d e : ℕ) (here : d ≡ digitOf (byteOf line at)) (next : e ≡ digitOf (byteOf line (at + 1))) (h : d < 16) where
+  -- the first digit is no zero
+  pub other-first : {n : Unsigned} → d ≤ 15 → (d ≡ 0 → ⊥) → n ≡ goneOn line (at + 1) d → n ≡ digitsAt line at
+  other-first h z e = rw (e, from-first (omega arith), ne-eqb d 0 z)
+
+-- d is what the byte at a place comes to, and e what the one after it does
+module _ (line : List ℕ) (at d e : ℕ) {n : Unsigned} (here : d ≡ digitOf (byteOf line at)) (next : e ≡ digitOf (byteOf line (at + 1))) (h : d ≤ 15) where
   -- a zero before another digit is no number
-  pub zero-first : d ≡ 0 → e < 16 → none ≡ digitsAt line at
-  zero-first z g =
-      let some : ltb 0 (length (digitsOf (drop (at + 1) line))) ≡ true = rw (one-more line (at + 1) e next g) (lt-ltb 0 (suc (length (digitsOf (drop (at + 1 + 1) line)))) (omega arith)) in
-      rw (from-first line at d here h, z, some)
+  pub zero-first : d ≡ 0 → e < 16 → n ≡ none → n ≡ digitsAt line at
+  zero-first z g is =
+      let rest = length (digitsOf (drop (at + 1 + 1) line)) in
+      let some : ltb 0 (length (digitsOf (drop (at + 1) line))) ≡ true = rw (one-more line (at + 1) e next g) (lt-ltb 0 (suc rest) (omega arith)) in
+      rw (is, from-first line at d here (omega arith), z, some)
 
-  pub zero-alone : 16 ≤ e → goneOn line (at + 1) d ≡ digitsAt line at
-  zero-alone g =
+  pub zero-alone : 16 ≤ e → n ≡ goneOn line (at + 1) d → n ≡ digitsAt line at
+  zero-alone g is =
       let ended : ltb 0 (length (digitsOf (drop (at + 1) line))) ≡ false = rw (no-more line (at + 1) e next g) refl in
-      rw (from-first line at d here h, ended) (sym (never (eqb d 0)))
+      rw (is, from-first line at d here (omega arith), ended) (sym (never (eqb d 0)))
     where
       never : (t : Bool) → cond (t && false) none (goneOn line (at + 1) d) ≡ goneOn line (at + 1) d
       never true = refl
       never false = refl
 
-pub other-first : (line : List ℕ) (at d : ℕ) → d ≡ digitOf (byteOf line at) → d < 16 → (d ≡ 0 → ⊥) → goneOn line (at + 1) d ≡ digitsAt line at
-other-first line at d here h z = rw (from-first line at d here h, ne-eqb d 0 z)
+-- the digits from `start` on, after `first`, are read as far as `at`: d is what the byte there comes to, and what is left spells the same after v and ends
+-- at the same place
+pub record Spelling (line : List ℕ) (start first v at d : ℕ) : Type 0 where
+  pub here : d ≡ digitOf (byteOf line at)
+  pub spells : valueOf first (digitsOf (drop start line)) ≡ valueOf v (digitsOf (drop at line))
+  pub ends : start + length (digitsOf (drop start line)) ≡ at + length (digitsOf (drop at line))
+  pub fits : v ≤ largest
 
--- what is limited is no more than its limit
-pub at-most : (most v next : ℕ) → upTo most v next .value ≤ most
-at-most most v next = go (ltb most v) refl
-  where
-    go : (t : Bool) → ltb most v ≡ t → cond t none (record { value = v; next = next }) .value ≤ most
-    go true e = omega arith
-    go false e = ltb-false most v e
+pub none-spelt : (line : List ℕ) (start first d : ℕ) → d ≡ digitOf (byteOf line start) → first ≤ largest → Spelling line start first first start d
+none-spelt line start first d e h = record { here = e; spells = refl; ends = refl; fits = h }
 
--- signed numbers fit 64 bits
-pub signed-fits : (line : List ℕ) (at : ℕ) → SFits w64 (signedAt line at .value)
-signed-fits line at =
-    go (eqb (byteOf line start) 126) (shortAt mostSigned line (afterOf start)) (shortAt mostSigned line start)
-    (at-most mostSigned (digitsAt line (afterOf start) .value) (digitsAt line (afterOf start) .next))
-    (at-most mostSigned (digitsAt line start .value) (digitsAt line start .next))
-  where
-    start : ℕ
-    start = tokenAt line at
+module _ {line : List ℕ} {start first v at d : ℕ} (s : Spelling line start first v at d) where
+  pub inside : d < 16 → at < length line
+  inside h = in-line line at d (s .here) h
 
-    go : (t : Bool) (a b : Unsigned) → a .value ≤ mostSigned → b .value ≤ mostSigned → SFits w64 (cond t (complementOf a) (integerOf b) .value)
-    go true a b h g = record { sfits = omega (arith, h) }
-    go false a b h g = record { sfits = omega (arith, g) }
+  spells-on : d < 16 → valueOf first (digitsOf (drop start line)) ≡ valueOf (v * 16 + d) (digitsOf (drop (at + 1) line))
+  spells-on h = s .spells ∙ rw (one-more line at d (s .here) h) (value-step v _ _)
+
+  pub one-spelt : {e : ℕ} → d < 16 → v ≤ 1152921504606846975 → e ≡ digitOf (byteOf line (at + 1)) → Spelling line start first (v * 16 + d) (at + 1) e
+  one-spelt h short next = record {
+    here = next;
+    spells = spells-on h;
+    ends = s .ends ∙ rw (one-more line at d (s .here) h) (omega arith);
+    fits = omega arith;
+  }
+
+  -- one more digit is more than 64 binary digits
+  pub too-long : {n : Unsigned} → d < 16 → 1152921504606846975 < v → n ≡ none → n ≡ goneOn line start first
+  too-long h long e =
+      let less = no-less (v * 16 + d) (digitsOf (drop (at + 1) line)) in
+      rw (e, lt-ltb largest (valueOf first (digitsOf (drop start line))) (omega (arith, less, spells-on h)))
+
+  pub all-spelt : 16 ≤ d → _≡_ {A = Unsigned} (record { value = v; next = at }) (goneOn line start first)
+  all-spelt h = rw (s .ends, s .spells, no-more line at d (s .here) h, value-end v, add-zero, le-ltb largest v (s .fits))

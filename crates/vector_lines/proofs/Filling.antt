@@ -6,9 +6,14 @@ use native.Mathlib.Numerals.{add-one}
 use native.Mathlib.Omega.{arith}
 use lib.ListN.{length, set, length-set}
 use lib.IntN.{ℤ}
+use mir.Syntax.{w64}
+use mir.Val.{toZ, ofZ}
 use Rattle.vector_lines.specs.declared.numbers.Head.{Head}
+use Rattle.vector_lines.specs.declared.numbers.Integer.{Integer}
+use Rattle.vector_lines.specs.declared.numbers.Unsigned.{Unsigned}
 use Rattle.vector_lines.specs.Numbers.{numberAt, signedAt, headAt, countAt}
 use Rattle.vector_lines.specs.Lists.{placeOf, filled, listed, listBy}
+use Rattle.vector_lines.proofs.Reading.{signed-back}
 
 -- i of the numbers that a head announces are read and stand in the list, and `at` is the place after them
 pub record Filled {A : Type 0} (value : ℕ → A) (next : ℕ → ℕ) (head : Head) (list : List A) (i : ℕ) (now : List A) (at : ℕ) : Type 0 where
@@ -38,7 +43,7 @@ module _ {A : Type 0} {value : ℕ → A} {next : ℕ → ℕ} {head : Head} {li
     room = ap length (f .stored) ∙ kept-length value next (head .next) list i
 
     -- one more number, v, which is read at the place after the others
-    pub one-read : {v : A} {to : ℕ} → i < head .count → v ≡ value at → to ≡ next at → Filled value next head list (i + 1) (set now i v) to
+    one-read : {v : A} {to : ℕ} → i < head .count → v ≡ value at → to ≡ next at → Filled value next head list (i + 1) (set now i v) to
     unfolding placeOf filled
     one-read more e g = record {
       announced = omega arith;
@@ -50,3 +55,12 @@ module _ {A : Type 0} {value : ℕ → A} {next : ℕ → ℕ} {head : Head} {li
     pub all-read : {count : ℕ} (line : List ℕ) (start before : ℕ) → head .count ≤ i → head ≡ headAt (length list) line start
         → count ≡ countAt (length list) line start before → listed now count at ≡ listBy value next line start list before
     all-read line start before last h k = let all : i ≡ head .count = omega arith in rw (f .stored, f .place, k, all, h)
+
+module _ (line : List ℕ) (head : Head) (i at : ℕ) where
+  pub one-number : (most : ℕ) {list now : List ℕ} {n : Unsigned} → NumbersRead most line head list i now at → i < head .count
+      → n ≡ numberAt most line at → NumbersRead most line head list (i + 1) (set now i (n .value)) (n .next)
+  one-number most f more e = one-read f more (rw e) (rw e)
+
+  pub one-integer : {list now : List ℤ} {n : Integer} → IntegersRead line head list i now at → i < head .count
+      → n ≡ signedAt line at → IntegersRead line head list (i + 1) (set now i (toZ w64 (ofZ w64 (n .value)))) (n .next)
+  one-integer f more e = one-read f more (signed-back line at e ∙ rw e) (rw e)

@@ -4,6 +4,7 @@ use mathlib.Core.Bool.{Bool, true, false, _&&_}
 use mathlib.Core.List.{List, [], _∷_}
 use Prim.Native.Nat.{ℕ, suc, _+_, _<_, _≤_}
 use native.Mathlib.Numerals.{add-one}
+use native.Mathlib.Omega.{arith}
 use lib.Dec.{eqb}
 use lib.ListN.{length, getD, drop, drop-of-length-le}
 use lib.Seq.{drop-cons}
@@ -22,19 +23,29 @@ other-length (x ∷ a) (y ∷ b) d = rw (← other-length a b (λ e. d (ap suc e
     never true = refl
     never false = refl
 
-module _ (a b : List ℕ) (i : ℕ) (in-a : i < length a) (in-b : i < length b) where
-  pub agree : getD a i 0 ≡ getD b i 0 → same (drop i a) (drop i b) ≡ same (drop (i + 1) a) (drop (i + 1) b)
-  unfolding same
-  agree e = rw (add-one, drop-cons a i 0 in-a, drop-cons b i 0 in-b, eq-eqb (getD a i 0) (getD b i 0) e)
+-- two lists of one length, whose first i elements are the same
+pub record Alike (a b : List ℕ) (i : ℕ) : Type 0 where
+  pub passed : i ≤ length a
+  pub rest : same a b ≡ same (drop i a) (drop i b)
 
-  pub differ : (getD a i 0 ≡ getD b i 0 → ⊥) → same (drop i a) (drop i b) ≡ false
-  unfolding same
-  differ d = rw (drop-cons a i 0 in-a, drop-cons b i 0 in-b, ne-eqb (getD a i 0) (getD b i 0) d)
+pub none-compared : (a b : List ℕ) → Alike a b 0
+none-compared a b = record { passed = omega arith; rest = refl }
 
--- past both ends nothing is left to compare
-pub both-ended : (a b : List ℕ) (i : ℕ) → length a ≤ i → length b ≤ i → same (drop i a) (drop i b) ≡ true
-unfolding same
-both-ended a b i h g = rw (drop-of-length-le a h, drop-of-length-le b g)
+module _ {a b : List ℕ} {i : ℕ} (long : length a ≡ length b) (so-far : Alike a b i) where
+  pub one-alike : i < length a → getD a i 0 ≡ getD b i 0 → Alike a b (i + 1)
+  unfolding same
+  one-alike h e = record {
+    passed = omega arith;
+    rest = so-far .rest ∙ rw (add-one, drop-cons a i 0 h, drop-cons b i 0 (omega arith), eq-eqb (getD a i 0) (getD b i 0) e);
+  }
+
+  pub one-other : i < length a → (getD a i 0 ≡ getD b i 0 → ⊥) → false ≡ same a b
+  unfolding same
+  one-other h d = rw (so-far .rest, drop-cons a i 0 h, drop-cons b i 0 (omega arith), ne-eqb (getD a i 0) (getD b i 0) d)
+
+  pub all-alike : length a ≤ i → true ≡ same a b
+  unfolding same
+  all-alike h = let g : length b ≤ i = omega arith in rw (so-far .rest, drop-of-length-le a h, drop-of-length-le b g)
 
 -- the same lists are equal lists
 pub same-itself : (a : List ℕ) → same a a ≡ true

@@ -5,7 +5,7 @@ use Prim.Native.Nat.{ℕ, zero, suc}
 use lib.Dec.{eqb}
 use lib.IntN.{ℤ}
 use lib.ListN.{length, set}
-use Rattle.vector_lines.specs.Numbers.{nowhere, numberAt, signedAt, headAt, countAt}
+use Rattle.vector_lines.specs.Numbers.{nowhere, largest, numberAt, signedAt, headAt, countAt}
 
 -- the place after i numbers, where `next` is the place after one
 unfoldable pub placeOf : (ℕ → ℕ) → ℕ → ℕ → ℕ
@@ -34,9 +34,18 @@ listBy value next line at list count =
     (countAt (length list) line at count)
     (placeOf next (headAt (length list) line at .next) (headAt (length list) line at .count))
 
--- numbers of at most `most`, and signed numbers
+-- numbers of at most `most`: bytes, 32-bit words and 64-bit numbers; and signed numbers
 abbrev pub numbersAt : ℕ → List ℕ → ℕ → List ℕ → ℕ → Listed ℕ
 numbersAt most line = listBy (λ at. numberAt most line at .value) (λ at. numberAt most line at .next) line
+
+abbrev pub bytesAt : List ℕ → ℕ → List ℕ → ℕ → Listed ℕ
+bytesAt = numbersAt 255
+
+abbrev pub wordsAt : List ℕ → ℕ → List ℕ → ℕ → Listed ℕ
+wordsAt = numbersAt 4294967295
+
+abbrev pub longsAt : List ℕ → ℕ → List ℕ → ℕ → Listed ℕ
+longsAt = numbersAt largest
 
 abbrev pub integersAt : List ℕ → ℕ → List ℤ → ℕ → Listed ℤ
 integersAt line = listBy (λ at. signedAt line at .value) (λ at. signedAt line at .next) line

@@ -24,12 +24,12 @@ mostSigned = 9223372036854775807
 abbrev pub byteOf : List ℕ → ℕ → ℕ
 byteOf line at = getD line at 0
 
-abbrev pub afterOf : ℕ → ℕ
-afterOf at = cond (ltb at nowhere) (at + 1) nowhere
+abbrev pub pastOf : ℕ → ℕ
+pastOf at = cond (ltb at nowhere) (at + 1) nowhere
 
 -- where the token after a space starts
 abbrev pub tokenAt : List ℕ → ℕ → ℕ
-tokenAt line at = cond (eqb (byteOf line at) 32) (afterOf at) nowhere
+tokenAt line at = cond (eqb (byteOf line at) 32) (pastOf at) nowhere
 
 -- the value of a small hexadecimal digit; 16 of any other byte
 unfoldable pub digitOf : ℕ → ℕ
@@ -85,7 +85,7 @@ complementOf n = record { value = negsuc (n .value); next = n .next }
 
 abbrev pub signedBy : List ℕ → ℕ → Integer
 signedBy line start =
-    cond (eqb (byteOf line start) 126) (complementOf (shortAt mostSigned line (afterOf start))) (integerOf (shortAt mostSigned line start))
+    cond (eqb (byteOf line start) 126) (complementOf (shortAt mostSigned line (pastOf start))) (integerOf (shortAt mostSigned line start))
 
 abbrev pub signedAt : List ℕ → ℕ → Integer
 signedAt line at = signedBy line (tokenAt line at)
@@ -97,7 +97,7 @@ keptAt line at = eqb (byteOf line (tokenAt line at)) 61
 abbrev pub headAt : ℕ → List ℕ → ℕ → Head
 headAt room line at =
     cond (keptAt line at)
-    (record { count = 0; next = afterOf (tokenAt line at) })
+    (record { count = 0; next = pastOf (tokenAt line at) })
     (record { count = numberAt room line at .value; next = numberAt room line at .next })
 
 -- a list's count after that: '=' keeps it

@@ -11,6 +11,7 @@ pub use lists::first_words;
 pub use lists::if_same;
 pub use lists::integers;
 pub use lists::longs;
+pub use lists::same_longs;
 pub use lists::same_words;
 pub use lists::words;
 pub use numbers::Integer;

@@ -2,8 +2,7 @@
 ghost use mathlib.Core.Path.{_≡_};
 ghost use lib.ListN.{take};
 ghost use Rattle.lent.specs.Lent.{before, after};
-ghost use Rattle.vector_lines.specs.Numbers.{largest};
-ghost use Rattle.vector_lines.specs.Lists.{listed, numbersAt, integersAt, same, ifSame};
+ghost use Rattle.vector_lines.specs.Lists.{listed, bytesAt, wordsAt, longsAt, integersAt, same, ifSame};
 use crate::NOWHERE;
 use crate::numbers::head_of;
 use crate::numbers::number;
@@ -12,7 +11,7 @@ use crate::numbers::signed;
 
 // Reads a list of 32-bit words.
 pub fn words(line: &[u8], at: usize, list: &mut [u32], count: &mut usize) -> usize
-    ensures { λ r. ⌜ listed (after list) (after count) r ≡ numbersAt 4294967295 (before line) at (before list) (before count) ⌝ }
+    ensures { λ r. ⌜ listed (after list) (after count) r ≡ wordsAt (before line) at (before list) (before count) ⌝ }
 {
     let head = head_of(line, at, list.len(), count);
     let mut next = head.next;
@@ -28,7 +27,7 @@ pub fn words(line: &[u8], at: usize, list: &mut [u32], count: &mut usize) -> usi
 
 // Reads a list of bytes.
 pub fn bytes(line: &[u8], at: usize, list: &mut [u8], count: &mut usize) -> usize
-    ensures { λ r. ⌜ listed (after list) (after count) r ≡ numbersAt 255 (before line) at (before list) (before count) ⌝ }
+    ensures { λ r. ⌜ listed (after list) (after count) r ≡ bytesAt (before line) at (before list) (before count) ⌝ }
 {
     let head = head_of(line, at, list.len(), count);
     let mut next = head.next;
@@ -44,7 +43,7 @@ pub fn bytes(line: &[u8], at: usize, list: &mut [u8], count: &mut usize) -> usiz
 
 // Reads a list of 64-bit numbers.
 pub fn longs(line: &[u8], at: usize, list: &mut [u64], count: &mut usize) -> usize
-    ensures { λ r. ⌜ listed (after list) (after count) r ≡ numbersAt largest (before line) at (before list) (before count) ⌝ }
+    ensures { λ r. ⌜ listed (after list) (after count) r ≡ longsAt (before line) at (before list) (before count) ⌝ }
 {
     let head = head_of(line, at, list.len(), count);
     let mut next = head.next;
@@ -113,6 +112,22 @@ pub fn first_longs(list: &[u64], count: usize) -> &[u64]
 }
 
 pub fn same_words(a: &[u32], b: &[u32]) -> bool
+    ensures { λ r. ⌜ r ≡ same (before a) (before b) ⌝ }
+{
+    if a.len() != b.len() {
+        return false;
+    }
+    let mut i = 0;
+    while i < a.len() {
+        if a[i] != b[i] {
+            return false;
+        }
+        i += 1;
+    }
+    true
+}
+
+pub fn same_longs(a: &[u64], b: &[u64]) -> bool
     ensures { λ r. ⌜ r ≡ same (before a) (before b) ⌝ }
 {
     if a.len() != b.len() {

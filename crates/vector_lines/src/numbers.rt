@@ -2,7 +2,9 @@
 ghost use mathlib.Core.Path.{_≡_};
 ghost use Prim.Native.Nat.{_≤_};
 ghost use Rattle.lent.specs.Lent.{before, after};
-ghost use Rattle.vector_lines.specs.Numbers.{largest, mostSigned, byteOf, afterOf, tokenAt, digitOf, none, upTo, goneOn, digitsAt, numberAt, expectedAt, integerOf, complementOf, signedAt, headAt, countAt};
+ghost use Rattle.vector_lines.specs.Numbers.{largest, mostSigned, byteOf, pastOf, tokenAt};
+ghost use Rattle.vector_lines.specs.Numbers.{digitOf, none, upTo, goneOn, digitsAt, numberAt, expectedAt};
+ghost use Rattle.vector_lines.specs.Numbers.{integerOf, complementOf, signedAt, headAt, countAt};
 use crate::NOWHERE;
 
 // A number and the place after it; 0 and NOWHERE where there is none.
@@ -29,8 +31,8 @@ fn byte(line: &[u8], at: usize) -> u8
     if at < line.len() { line[at] } else { 0 }
 }
 
-fn after(at: usize) -> usize
-    ensures { λ r. ⌜ r ≡ afterOf at ⌝ }
+fn past(at: usize) -> usize
+    ensures { λ r. ⌜ r ≡ pastOf at ⌝ }
 {
     if at < NOWHERE { at + 1 } else { NOWHERE }
 }
@@ -40,7 +42,7 @@ fn token(line: &[u8], at: usize) -> usize
     ensures { λ r. ⌜ r ≡ tokenAt (before line) at ⌝ }
 {
     if byte(line, at) == b' ' {
-        after(at)
+        past(at)
     } else {
         NOWHERE
     }
@@ -156,7 +158,7 @@ pub fn signed(line: &[u8], at: usize) -> Integer
 {
     let start = token(line, at);
     if byte(line, start) == b'~' {
-        return complement(limited(digits(line, after(start)), MOST_SIGNED));
+        return complement(limited(digits(line, past(start)), MOST_SIGNED));
     }
     plain(limited(digits(line, start), MOST_SIGNED))
 }
@@ -191,7 +193,7 @@ pub fn head_of(line: &[u8], at: usize, room: usize, count: &mut usize) -> Head
     if byte(line, start) == b'=' {
         return Head {
             count: 0,
-            next: after(start),
+            next: past(start),
         };
     }
     let n = number_up_to(line, at, room as u64);

@@ -1,8 +1,8 @@
 // The lines of a text, one after the other: each is asked of the library, and the place is kept where its answer ends.
 ghost use mathlib.Core.Path.{_≡_};
 ghost use Rattle.lent.specs.Lent.{before, after};
-ghost use Rattle.verdicts.specs.Lines.{linesOf, counted, linesCounted};
-ghost use Rattle.vectors.specs.Replay.{kept, nothingKept, answer, replayedAt, placesFrom};
+ghost use Rattle.verdicts.specs.Lines.{linesOf, countsFound, countsLeft, linesCounted, answer, placesFrom};
+ghost use Rattle.vectors.specs.Replay.{keptFound, keptLeft, nothingKept, replayedAt};
 use vector_cases::composition;
 use vector_cases::name;
 use vector_cases::narrowing;
@@ -10,8 +10,8 @@ use vector_jobs::job;
 use vector_lines::NOWHERE;
 use vector_rooms::AT_INPUT;
 use vector_rooms::Args;
+use vector_rooms::Checkpoint;
 use vector_rooms::Counts;
-use vector_rooms::Mark;
 use vector_rooms::Picture;
 use vector_rooms::Samples;
 use vector_rooms::Table;
@@ -31,24 +31,37 @@ fn replayed(
     input: &mut Picture,
     work0: &mut Picture,
     work1: &mut Picture,
-    mark: &mut Mark,
+    checkpoint: &mut Checkpoint,
     counts: &mut Counts,
 ) -> usize
-    ensures { λ r. ⌜ answer r (kept (after dst) (after table) (after args) (after samples) (after input) (after work0) (after work1) (after mark) (after counts)) ≡ replayedAt (before line) (kept (before dst) (before table) (before args) (before samples) (before input) (before work0) (before work1) (before mark) (before counts)) ⌝ }
+    ensures { λ r. ⌜
+        answer r (keptLeft dst table args samples input work0 work1 checkpoint counts)
+        ≡ replayedAt (before line) (keptFound dst table args samples input work0 work1 checkpoint counts)
+        ⌝ }
 {
     match first(line) {
         b'F' => name(line),
         b'N' => narrowing(line, false, input, &mut counts[AT_INPUT]),
         b'B' => narrowing(line, true, input, &mut counts[AT_INPUT]),
         b'C' => composition(line, dst, table, args, samples, counts),
-        b'J' => job(line, dst, table, args, samples, work0, work1, mark, counts),
+        b'J' => job(
+            line,
+            dst,
+            table,
+            args,
+            samples,
+            work0,
+            work1,
+            checkpoint,
+            counts,
+        ),
         _ => NOWHERE,
     }
 }
 
 // Replays every line and keeps where its answer ends.
 fn replay(text: &[u8], places: &mut [usize])
-    ensures { λ _. ⌜ after places ≡ placesFrom 0 (linesOf (before text)) nothingKept (before places) ⌝ }
+    ensures { λ _. ⌜ after places ≡ placesFrom replayedAt 0 (linesOf (before text)) nothingKept (before places) ⌝ }
 {
     let mut dst: Picture = [0; 256];
     let mut table: Table = [0; 320];
@@ -57,7 +70,7 @@ fn replay(text: &[u8], places: &mut [usize])
     let mut input: Picture = [0; 256];
     let mut work0: Picture = [0; 256];
     let mut work1: Picture = [0; 256];
-    let mut mark: Mark = [0; 4];
+    let mut checkpoint: Checkpoint = [0; 4];
     let mut counts: Counts = [0; 8];
     let mut i: usize = 0;
     let mut from: usize = 0;
@@ -72,7 +85,7 @@ fn replay(text: &[u8], places: &mut [usize])
             &mut input,
             &mut work0,
             &mut work1,
-            &mut mark,
+            &mut checkpoint,
             &mut counts,
         );
         put_place(places, i, place);
@@ -90,7 +103,10 @@ pub fn judge(
     right: &mut [u64],
     wrong: &mut [u64],
 ) -> u64
-    ensures { λ r. ⌜ counted (after right) (after wrong) r ≡ linesCounted (before kinds) (placesFrom 0 (linesOf (before text)) nothingKept (before places)) 0 (linesOf (before text)) (counted (before right) (before wrong) 0) ⌝ }
+    ensures { λ r. let lines = linesOf (before text) in ⌜
+        countsLeft right wrong r
+        ≡ linesCounted (before kinds) (placesFrom replayedAt 0 lines nothingKept (before places)) 0 lines (countsFound right wrong 0)
+        ⌝ }
 {
     replay(text, places);
     count_lines(text, places, kinds, right, wrong)

@@ -4,6 +4,7 @@ use mathlib.Core.List.{List, [], _∷_}
 use Prim.Native.Nat.{ℕ, suc, _+_}
 use lib.Dec.{eqb, ltb}
 use lib.ListN.{length, getD, set, drop}
+use Rattle.lent.specs.Lent.{Lent, before, after}
 use Rattle.verdicts.specs.Tally.{tallied}
 
 -- ---- lines
@@ -59,6 +60,13 @@ pub record Counted : Type 0 where
 abbrev pub counted : List ℕ → List ℕ → ℕ → Counted
 counted right wrong first = record { right = right; wrong = wrong; first = first }
 
+-- the numbers that a function is lent, as it finds them and as it leaves them
+abbrev pub countsFound : (right wrong : Lent (List ℕ)) → ℕ → Counted
+countsFound right wrong = counted (before right) (before wrong)
+
+abbrev pub countsLeft : (right wrong : Lent (List ℕ)) → ℕ → Counted
+countsLeft right wrong = counted (after right) (after wrong)
+
 abbrev pub firstWrong : Bool → (number first : ℕ) → ℕ
 firstWrong isWrong number first = cond (isWrong && eqb first 0) number first
 
@@ -77,7 +85,21 @@ linesCounted kinds places i [] c = c
 linesCounted kinds places i (line ∷ lines) c =
     linesCounted kinds places (i + 1) lines (lineCounted kinds (i + 1) line (getD places i 0) c)
 
--- the list of the places, from the i-th line on, where a line's place depends on nothing but what it asks; past the list's end none is kept
-unfoldable pub placesOf : (List ℕ → ℕ) → (i : ℕ) → List (List ℕ) → List ℕ → List ℕ
-placesOf place i [] places = places
-placesOf place i (line ∷ lines) places = placesOf place (i + 1) lines (set places i (place (askedOf line)))
+-- where a line's answer ends, and what is kept for the lines after it
+pub record Answered (K : Type 0) : Type 0 where
+  pub place : ℕ
+  pub kept : K
+
+abbrev pub answer : {K : Type 0} → ℕ → K → Answered K
+answer place kept = record { place = place; kept = kept }
+
+-- the list of the places, from the i-th line on, where a line is answered by what it asks and what the lines before it kept; past the list's end there is no
+-- place
+unfoldable pub placesFrom : {K : Type 0} → (List ℕ → K → Answered K) → (i : ℕ) → List (List ℕ) → K → List ℕ → List ℕ
+placesFrom answered i [] k places = places
+placesFrom answered i (line ∷ lines) k places =
+    placesFrom answered (i + 1) lines (answered (askedOf line) k .kept) (set places i (answered (askedOf line) k .place))
+
+-- the same where a line's place depends on nothing but what it asks
+abbrev pub placesOf : (List ℕ → ℕ) → (i : ℕ) → List (List ℕ) → List ℕ → List ℕ
+placesOf place i lines = placesFrom (λ line k. answer (place line) k) i lines (tt {0})

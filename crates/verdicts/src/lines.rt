@@ -5,7 +5,8 @@ ghost use mathlib.Core.Path.{_≡_};
 ghost use Prim.Native.Nat.{_+_, _≤_, _<_};
 ghost use lib.ListN.{length, getD, set, drop};
 ghost use Rattle.lent.specs.Lent.{before, after};
-ghost use Rattle.verdicts.specs.Lines.{widthOf, linesOf, firstOf, asks, askedOf, spoiled, kindOf, rightAt, counted, firstWrong, withLine, lineCounted, linesCounted};
+ghost use Rattle.verdicts.specs.Lines.{widthOf, linesOf, firstOf, asks, askedOf, kindOf, rightAt};
+ghost use Rattle.verdicts.specs.Lines.{countsFound, countsLeft, firstWrong, lineCounted, linesCounted};
 use crate::counting::tally;
 
 // Where the line that starts at `from` ends.
@@ -124,7 +125,10 @@ fn count_line(
     right: &mut [u64],
     wrong: &mut [u64],
 ) -> u64
-    ensures { λ r. ⌜ counted (after right) (after wrong) r ≡ lineCounted (before kinds) number (before line) place (counted (before right) (before wrong) «first_wrong») ⌝ }
+    ensures { λ r. ⌜
+        countsLeft right wrong r
+        ≡ lineCounted (before kinds) number (before line) place (countsFound right wrong «first_wrong»)
+        ⌝ }
 {
     let kind = kind_of(kinds, first(line));
     let is_wrong = counts_wrong(line, place);
@@ -160,7 +164,10 @@ pub fn count_lines(
     right: &mut [u64],
     wrong: &mut [u64],
 ) -> u64
-    ensures { λ r. ⌜ counted (after right) (after wrong) r ≡ linesCounted (before kinds) (before places) 0 (linesOf (before text)) (counted (before right) (before wrong) 0) ⌝ }
+    ensures { λ r. ⌜
+        countsLeft right wrong r
+        ≡ linesCounted (before kinds) (before places) 0 (linesOf (before text)) (countsFound right wrong 0)
+        ⌝ }
 {
     let mut first_wrong: u64 = 0;
     let mut i: usize = 0;

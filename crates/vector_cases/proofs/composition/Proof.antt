@@ -1,23 +1,36 @@
 -- `composition` meets its contract, by its callees'. Assumes nothing.
 use borrow.Author.Needs.{needs}
-use Rattle.vector_rooms.specs.Rooms.{composing}
 use Rattle.vector_cases.proofs.Laws.{composition-read}
 use Rattle.vector_cases.proofs.composition.Statement.{statement}
 use Rattle.vector_cases.proofs.composition.Tie as tie
 
+-- where the shape, DST and the lists of the layers are read, and where DST, TABLE and ARGS are cut to their counts
+abbrev args-cut : tie.After-first-words3 → tie.After-first-words2
+args-cut c = c .before .before .before .before
+
+abbrev table-cut : tie.After-first-words2 → tie.After-first-integers
+table-cut c = c .before .before .before .before
+
+abbrev dst-cut : tie.After-first-integers → tie.After-first-words
+dst-cut c = c .before .before .before .before
+
+abbrev layers-read : tie.After-first-words → tie.After-layers
+layers-read c = c .before .before .before .before
+
+abbrev dst-read : tie.After-layers → tie.After-words
+dst-read c = c .before .before .before .before .before
+
+abbrev shape-read : tie.After-words → tie.After-shape-of
+shape-read c = c .before .before .before
+
 returns : tie.Need-returns
 returns c =
-    let f3 = c .before in
-    let f2 = f3 .before .before .before .before in
-    let i = f2 .before .before .before .before in
-    let f1 = i .before .before .before .before in
-    let y = f1 .before .before .before .before in
-    let d = y .before .before .before .before .before in
-    let e = d .before .before .before in
-    let s = e .before .before .args in
-    composition-read (s .line .now) (composing 0 (s .dst .now) (s .table .now) (s .args .now) (s .samples .now) (s .counts .now))
-    (e .shape-of .ensures) (d .words .ensures) (y .layers .ensures)
-    (rw (f1 .first-words .ensures, i .first-integers .ensures, f2 .first-words2 .ensures, f3 .first-words3 .ensures) at (c .composed .ensures))
+    let a = args-cut (c .before) in
+    let t = table-cut a in
+    let d = dst-cut t in
+    let l = layers-read d in
+    composition-read _ _ _ _ _ _ (shape-read (dst-read l) .shape-of .ensures) (dst-read l .words .ensures) (l .layers .ensures) (d .first-words .ensures)
+    (t .first-integers .ensures) (a .first-words2 .ensures) (c .before .first-words3 .ensures) (c .composed .ensures)
 
 pub composition-spec : {M : Type 1} → statement M
 composition-spec =

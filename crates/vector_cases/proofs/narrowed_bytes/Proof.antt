@@ -1,20 +1,15 @@
 -- `narrowed_bytes` meets its contract, by its callees'. Assumes nothing.
-use mathlib.Core.Path.{ap}
-use mir.Facts.{toZ-ofZ}
-use Rattle.narrowing.specs.Narrow.{Narrowed}
-use Rattle.vector_cases.specs.Cases.{narrowedBytesAt}
 use borrow.Author.Needs.{needs}
+use Rattle.vector_cases.proofs.Laws.{narrowed-bytes-so}
 use Rattle.vector_cases.proofs.narrowed_bytes.Statement.{statement}
 use Rattle.vector_cases.proofs.narrowed_bytes.Tie as tie
 
-returns : tie.Need-returns
-unfolding narrowedBytesAt
-returns c =
-    let e = c .before .before in
-    let t = e .before .before .before in
-    let s = t .before .before .before .before .before in
-    rw (c .written-bytes .ensures, e .expect .ensures)
-    (ap (λ (n : Narrowed). narrowedBytesAt (s .args .line .now) (s .args .at) n) (rw (toZ-ofZ (s .fits .wanted)) at (t .tray-narrow-bytes .ensures)))
-
 pub narrowed-bytes-spec : {M : Type 1} → statement M
-narrowed-bytes-spec = tie.close (tie.spec (λ c κs. search needs) (λ c κs. search needs) (λ c κs. search needs) (λ c. search needs) returns)
+narrowed-bytes-spec =
+    tie.close
+    (tie.spec
+    (λ c κs. search needs)
+    (λ c κs. search needs)
+    (λ c κs. search needs)
+    (λ c. search needs)
+    (λ c. search narrowed-bytes-so))

@@ -1,18 +1,27 @@
 -- `call` meets its contract, by its callees'. Assumes nothing.
 use borrow.Author.Needs.{needs, sfits-of}
-use mir.Facts.{toZ-ofZ}
-use Rattle.vector_jobs.proofs.Calls.{answered}
+use Rattle.vector_jobs.proofs.Calls.{call-answered}
 use Rattle.vector_jobs.proofs.call.Statement.{statement}
 use Rattle.vector_jobs.proofs.call.Tie as tie
 
+-- the place where the call has answered, and the function's start
+abbrev answered : tie.After-expect → tie.After-tray-job
+answered c = c .before .before .before .before .before .before .before
+
+abbrev start : tie.After-tray-job → tie.Start
+start c = c .before .before .before .before .before .before .before .before .before .before .before .before .before .before .before .before .before
+
 returns : tie.Need-returns
 returns c =
-    let e = c .before .before .before in
-    let t = e .before .before .before .before .before .before .before .before .before .before in
-    let s = t .before .before .before .before .before .before .before .before .before .before .before .before .before .before .before .before .before in
+    let finished = c .before .before .before in
+    let stores = finished .before in
+    let layer = stores .before in
+    let number = layer .before in
+    let t = answered number in
     let fit = t .before .struct-told3 .given in
-    let told = rw (toZ-ofZ (sfits-of (fit .0 .1)), toZ-ofZ (sfits-of (fit .1 .0 .1)), toZ-ofZ (sfits-of (fit .1 .1 .0 .1)), toZ-ofZ (s .fits .layers)) at (t .tray-job .ensures) in
-    answered (s .args .line .now) (s .args .at) told (e .before .before .before .expect .ensures) (e .before .before .expect2 .ensures) (e .before .expect3 .ensures) (e .expect4 .ensures) (c .before .position .ensures) (c .expect5 .ensures)
+    call-answered _ _ _ _ _ (sfits-of (fit .0 .1)) (sfits-of (fit .1 .0 .1)) (sfits-of (fit .1 .1 .0 .1)) (start t .fits .layers)
+    (t .tray-job .ensures) (number .expect .ensures) (layer .expect2 .ensures) (stores .expect3 .ensures) (finished .expect4 .ensures)
+    (c .before .position .ensures) (c .expect5 .ensures)
 
 pub call-spec : {M : Type 1} → statement M
 call-spec =

@@ -1,32 +1,24 @@
 -- `called` meets its contract: the tests are the definition's, and the parts that are lent come back in their places. Assumes nothing.
-use native.Mathlib.Nat.{sub-zero}
-use mir.Facts.{toZ-ofZ}
-use lib.ListN.{getD}
 use borrow.Author.Needs.{needs}
-use Rattle.vector_jobs.proofs.Calls.{no-room-0, no-room-1, no-room-2, called-on}
+use Rattle.vector_jobs.proofs.Calls.{no-room-0, no-room-1, no-room-2, parts-called}
 use Rattle.vector_jobs.proofs.called.Statement.{statement}
 use Rattle.vector_jobs.proofs.called.Tie as tie
 
-returns : tie.Need-returns
-returns c = no-room-0 _ _ _ _ _ (c .if1 .taken)
+-- the place where the calls are made, the one where there is room for each list, and the function's start
+abbrev made : tie.After-slice-known6 → tie.After-calls-on
+made c = c .before .before .before .before .before .before
 
-returns-2 : tie.Need-returns-2
-returns-2 c = no-room-1 _ _ _ _ _ (c .before .if1 .left) (c .if2 .taken)
+abbrev room : tie.After-calls-on → tie.Else3
+room c = c .before .before .before .before
 
-returns-3 : tie.Need-returns-3
-returns-3 c = no-room-2 _ _ _ _ _ (c .before .before .if1 .left) (c .before .if2 .left) (c .if3 .taken)
+abbrev start : tie.Else1 → tie.Start
+start c = c .before .before .before .before .before .before .before .before .before .before .before .before
 
 returns-4 : tie.Need-returns-4
 returns-4 c =
-    let q = c .before .before .before .before .before .before in
-    let t = q .before .before .before .before in
-    let s = t .before .before .before .before .before .before .before .before .before .before .before .before .before .before in
-    let n0 = getD (s .args .counts .now) 5 0 in
-    let n1 = getD (s .args .counts .now) 6 0 in
-    let n = getD (s .args .counts .now) 7 0 in
-    rw (sub-zero n0, sub-zero n1, sub-zero n)
-    (called-on _ _ _ _ _ (t .before .before .if1 .left) (t .before .if2 .left) (t .if3 .left)
-    (rw (sub-zero n0, sub-zero n1, sub-zero n, toZ-ofZ (s .fits .layers)) at (q .calls-on .ensures)))
+    let r = room (made c) in
+    let r1 = r .before .before in
+    parts-called _ _ _ _ _ _ (r1 .if1 .left) (r .before .if2 .left) (r .if3 .left) (start r1 .fits .layers) (made c .calls-on .ensures)
 
 pub called-spec : {M : Type 1} → statement M
 called-spec =
@@ -35,18 +27,12 @@ called-spec =
     (λ c. search needs)
     (λ c. search needs)
     (λ c. search needs)
-    returns
-    returns-2
-    returns-3
-    (λ c. search needs)
-    (λ c. search needs)
-    (λ c. search needs)
-    (λ c. search needs)
-    (λ c. search needs)
-    (λ c. search needs)
-    (λ c. search needs)
-    (λ c. search needs)
-    (λ c. search needs)
+    (λ c. search no-room-0)
+    (λ c. search no-room-1)
+    (λ c. search no-room-2)
+    (λ c. search needs) (λ c. search needs) (λ c. search needs)
+    (λ c. search needs) (λ c. search needs) (λ c. search needs)
+    (λ c. search needs) (λ c. search needs) (λ c. search needs)
     (λ c κs. search needs)
     (λ c. search needs)
     (λ c. search needs)

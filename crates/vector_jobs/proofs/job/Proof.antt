@@ -1,26 +1,41 @@
 -- `job` meets its contract, by its callees'. Assumes nothing.
-use mir.Facts.{toZ-ofZ}
-use borrow.Author.Needs.{needs, sfits-of}
-use Rattle.job.specs.Memory.{memOf}
-use Rattle.vector_rooms.specs.Rooms.{composing}
+use borrow.Author.Needs.{needs}
 use Rattle.vector_jobs.proofs.Calls.{job-read}
 use Rattle.vector_jobs.proofs.job.Statement.{statement}
 use Rattle.vector_jobs.proofs.job.Tie as tie
 
+-- where the shape, DST, the count of layers and their lists are read, and where DST, TABLE, ARGS and SAMPLES are cut to their counts
+abbrev samples-cut : tie.After-played → tie.After-first-words3
+samples-cut c = c .before .before .before .before .before .before
+
+abbrev args-cut : tie.After-first-words3 → tie.After-first-words2
+args-cut c = c .before .before .before
+
+abbrev table-cut : tie.After-first-words2 → tie.After-first-integers
+table-cut c = c .before .before .before
+
+abbrev dst-cut : tie.After-first-integers → tie.After-first-words
+dst-cut c = c .before .before .before
+
+abbrev layers-read : tie.After-first-words → tie.After-layers
+layers-read c = c .before .before .before .before .before .before .before
+
+abbrev count-read : tie.After-layers → tie.After-signed
+count-read c = c .before .before .before .before .before
+
+abbrev shape-read : tie.After-words → tie.After-shape-of
+shape-read c = c .before .before .before
+
 returns : tie.Need-returns
 returns c =
-    let f3 = c .before .before .before .before .before .before in
-    let f2 = f3 .before .before .before in
-    let i = f2 .before .before .before in
-    let f1 = i .before .before .before in
-    let y = f1 .before .before .before .before .before .before .before in
-    let n = y .before .before .before .before .before in
-    let d = n .before in
-    let e = d .before .before .before in
-    let s = e .before .before .args in
-    job-read (s .line .now) (composing 0 (s .dst .now) (s .table .now) (s .args .now) (s .samples .now) (s .counts .now)) (memOf (s .work0 .now) (s .work1 .now) (s .mark .now))
-    (e .shape-of .ensures) (d .words .ensures) (n .signed .ensures) (y .layers .ensures)
-    (rw (f1 .first-words .ensures, i .first-integers .ensures, f2 .first-words2 .ensures, f3 .first-words3 .ensures, toZ-ofZ (sfits-of (c .before .struct-told .given .0 .1))) at (c .played .ensures))
+    let s = samples-cut c in
+    let a = args-cut s in
+    let t = table-cut a in
+    let d = dst-cut t in
+    let l = layers-read d in
+    let n = count-read l in
+    job-read _ _ _ _ _ _ _ (shape-read (n .before) .shape-of .ensures) (n .before .words .ensures) (n .signed .ensures) (l .layers .ensures)
+    (d .first-words .ensures) (t .first-integers .ensures) (a .first-words2 .ensures) (s .first-words3 .ensures) (c .played .ensures)
 
 pub job-spec : {M : Type 1} → statement M
 job-spec =

@@ -1,18 +1,32 @@
 -- `played` meets its contract, by its callees'. Assumes nothing.
 use borrow.Author.Needs.{needs}
-use mir.Facts.{toZ-ofZ}
 use Rattle.vector_jobs.proofs.Calls.{played-read}
 use Rattle.vector_jobs.proofs.played.Statement.{statement}
 use Rattle.vector_jobs.proofs.played.Tie as tie
 
+-- where the memory and the allowances are read, and where the calls are made; and the function's start
+abbrev called : tie.After-all-left → tie.After-called
+called c = c .before .before .before .before .before .before .before .before
+
+abbrev allowed : tie.After-called → tie.After-first-longs
+allowed c = c .before .before .before .before .before
+
+abbrev allowances-read : tie.After-first-longs → tie.After-longs
+allowances-read c = c .before .before .before .before .before .before
+
+abbrev memory-read : tie.After-longs → tie.After-memory
+memory-read c = c .before .before .before
+
+abbrev start : tie.After-memory → tie.Start
+start c = c .before .before .before .before .before .before .before .before .before
+
 returns : tie.Need-returns
 returns c =
-    let p = c .before .before .before .before .before .before .before .before in
-    let f = p .before .before .before .before .before in
-    let n = f .before .before .before .before .before .before in
-    let m = n .before .before .before in
-    let s = m .before .before .before .before .before .before .before .before .before in
-    played-read _ _ _ (m .memory .ensures) (n .longs .ensures) (rw (f .first-longs .ensures, toZ-ofZ (s .fits .layers)) at (p .called .ensures)) (c .left .ensures)
+    let p = called c in
+    let a = allowed p in
+    let l = allowances-read a in
+    let m = memory-read l in
+    played-read _ _ _ (start m .fits .layers) (m .memory .ensures) (l .longs .ensures) (a .first-longs .ensures) (p .called .ensures) (c .all-left .ensures)
 
 pub played-spec : {M : Type 1} → statement M
 played-spec =

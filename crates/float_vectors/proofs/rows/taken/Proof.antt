@@ -25,25 +25,27 @@ module _ (row : List ℕ) (letter : ℕ) (is : letter ≡ firstOf row) where
   unfolding takenAt secondAt thirdAt resultAt
   read h g ea eb ec e k = rw (← is, le-ltb letter 97 h, le-ltb 113 letter g, ← ea, ← eb, ← ec, ← e) k
 
-returns : tie.Need-returns
-returns c = too-low _ _ (c .before .first .ensures) (c .if1 .taken)
-
-returns-2 : tie.Need-returns-2
-returns-2 c = too-high _ _ (c .before .before .first .ensures) (c .before .if1 .left) (c .if2 .taken)
+-- where the operands are read
+abbrev operands : tie.After-expect → tie.After-number-up-to3
+operands c = c .before .before .before .before .before
 
 returns-3 : tie.Need-returns-3
 returns-3 c =
-    let n3 = c .before .before .before .before .before in
-    let e = n3 .before .before .before in
-    read _ _ (e .before .before .first .ensures) (e .before .if1 .left) (e .if2 .left) (n3 .before .before .number-up-to .ensures .0) (n3 .before .number-up-to2 .ensures .0) (n3 .number-up-to3 .ensures .0) (c .before .given .ensures) (c .expect .ensures)
+    let third = operands c in
+    let second = third .before in
+    let first = second .before in
+    let high = first .before in
+    let low = high .before in
+    read _ _ (low .before .first .ensures) (low .if1 .left) (high .if2 .left) (first .number-up-to .ensures .0) (second .number-up-to2 .ensures .0)
+    (third .number-up-to3 .ensures .0) (c .before .given .ensures) (c .expect .ensures)
 
 pub taken-spec : {M : Type 1} → statement M
 taken-spec =
     tie.close
     (tie.spec
     (λ c κs. search needs)
-    returns
-    returns-2
+    (λ c. search too-low)
+    (λ c. search too-high)
     (λ c κs. search needs)
     (λ c κs. search needs)
     (λ c κs. search needs)

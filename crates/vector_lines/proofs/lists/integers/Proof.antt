@@ -2,9 +2,7 @@
 use Prim.Native.Nat.{_-_}
 use native.Mathlib.Omega.{arith}
 use borrow.Author.Needs.{needs}
-use mir.Facts.{toZ-ofZ}
-use Rattle.vector_lines.proofs.Digits.{signed-fits}
-use Rattle.vector_lines.proofs.Filling.{IntegersRead, none-read, one-read, room, all-read}
+use Rattle.vector_lines.proofs.Filling.{IntegersRead, none-read, one-integer, room, all-read}
 use Rattle.vector_lines.proofs.lists.integers.Statement.{statement}
 use Rattle.vector_lines.proofs.lists.integers.Tie as tie
 
@@ -18,17 +16,9 @@ integers-spec =
     (λ c. none-read)
     (λ c κs. search needs)
     (λ c. search needs)
-    (λ c. let long = room (c .before .before .before .before .loop .inv) in omega arith)
+    (λ c. omega (arith, room))
     (λ c. search needs)
     (λ c. omega arith)
-    (λ c.
-    let n = c .before .signed .ensures in
-    let l = c .before .before .before .before in
-    let fits = signed-fits (l .before .before .before .before .args .line .now) (l .loop .next) in
-    one-read (l .loop .inv) (omega arith) (rw n (toZ-ofZ fits)) (rw n))
-    (λ c. room (c .before .before .loop .inv))
-    (λ c.
-    let l = c .before .before in
-    let s = l .before .before .before .before .args in
-    let h = l .before .head-of .ensures in
-    all-read (l .loop .inv) (s .line .now) (s .at) (s .count .now) (c .if1 .left) (h .0) (h .1 .1)))
+    (λ c. search one-integer)
+    (λ c. search room)
+    (λ c. search all-read))

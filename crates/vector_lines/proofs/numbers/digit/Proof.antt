@@ -5,39 +5,16 @@ use Rattle.vector_lines.specs.Numbers.{digitOf}
 use Rattle.vector_lines.proofs.numbers.digit.Statement.{statement}
 use Rattle.vector_lines.proofs.numbers.digit.Tie as tie
 
-returns : tie.Need-returns
-unfolding digitOf
-returns c = simp (lt-ltb _ _ (c .if1 .taken))
-
-returns-2 : tie.Need-returns-2
-unfolding digitOf
-returns-2 c = simp (le-ltb _ _ (c .before .if1 .left), lt-ltb _ _ (c .if2 .taken))
-
-returns-3 : tie.Need-returns-3
-unfolding digitOf
-returns-3 c = simp (le-ltb _ _ (c .before .before .if1 .left), le-ltb _ _ (c .before .if2 .left), lt-ltb _ _ (c .if3 .taken))
-
-returns-4 : tie.Need-returns-4
-unfolding digitOf
-returns-4 c =
-    simp (
-      le-ltb _ _ (c .before .before .before .if1 .left),
-      le-ltb _ _ (c .before .before .if2 .left),
-      le-ltb _ _ (c .before .if3 .left),
-      lt-ltb _ _ (c .if4 .taken),
-    )
-
-returns-5 : tie.Need-returns-5
-unfolding digitOf
-returns-5 c =
-    simp (
-      le-ltb _ _ (c .before .before .before .if1 .left),
-      le-ltb _ _ (c .before .before .if2 .left),
-      le-ltb _ _ (c .before .if3 .left),
-      le-ltb _ _ (c .if4 .left),
-    )
-
 pub digit-spec : {M : Type 1} → statement M
+unfolding digitOf
 digit-spec =
     tie.close
-    (tie.spec returns (λ c. search needs) returns-2 returns-3 (λ c. search needs) (λ c. search needs) returns-4 returns-5)
+    (tie.spec
+    (λ c. search lt-ltb)
+    (λ c. search needs)
+    (λ c. search (lt-ltb, le-ltb))
+    (λ c. search (lt-ltb, le-ltb))
+    (λ c. search needs)
+    (λ c. search needs)
+    (λ c. search (lt-ltb, le-ltb))
+    (λ c. search (lt-ltb, le-ltb)))

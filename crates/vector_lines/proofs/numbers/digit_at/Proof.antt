@@ -3,8 +3,5 @@ use borrow.Author.Needs.{needs}
 use Rattle.vector_lines.proofs.numbers.digit_at.Statement.{statement}
 use Rattle.vector_lines.proofs.numbers.digit_at.Tie as tie
 
-returns : tie.Need-returns
-returns c = rw (c .digit .ensures, c .before .byte .ensures)
-
 pub digit-at-spec : {M : Type 1} → statement M
-digit-at-spec = tie.close (tie.spec (λ c κs. search needs) (λ c κs. search needs) returns)
+digit-at-spec = tie.close (tie.spec (λ c κs. search needs) (λ c κs. search needs) (λ c. cc))

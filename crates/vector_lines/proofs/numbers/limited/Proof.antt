@@ -6,7 +6,7 @@ use Rattle.vector_lines.proofs.numbers.limited.Statement.{statement}
 use Rattle.vector_lines.proofs.numbers.limited.Tie as tie
 
 returns : tie.Need-returns
-returns c = (rw (c .nothing .ensures, lt-ltb _ _ (c .before .if1 .taken)), rw (c .nothing .ensures) (omega arith))
+returns c = rw (c .nothing .ensures) (rw (lt-ltb _ _ (c .before .if1 .taken)), omega arith)
 
 returns-2 : tie.Need-returns-2
 returns-2 c = (rw (le-ltb _ _ (c .if1 .left)), c .if1 .left)

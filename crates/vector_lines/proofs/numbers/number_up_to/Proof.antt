@@ -3,8 +3,5 @@ use borrow.Author.Needs.{needs}
 use Rattle.vector_lines.proofs.numbers.number_up_to.Statement.{statement}
 use Rattle.vector_lines.proofs.numbers.number_up_to.Tie as tie
 
-returns : tie.Need-returns
-returns c = (rw (c .limited .ensures .0, c .before .digits .ensures, c .before .before .token .ensures), c .limited .ensures .1)
-
 pub number-up-to-spec : {M : Type 1} → statement M
-number-up-to-spec = tie.close (tie.spec (λ c κs. search needs) (λ c κs. search needs) (λ c κs. search needs) returns)
+number-up-to-spec = tie.close (tie.spec (λ c κs. search needs) (λ c κs. search needs) (λ c κs. search needs) (λ c. (cc, c .limited .ensures .1)))

@@ -3,5 +3,11 @@ use borrow.Author.Needs.{needs}
 use Rattle.verdicts.proofs.lines.counts_right.Statement.{statement}
 use Rattle.verdicts.proofs.lines.counts_right.Tie as tie
 
+returns : tie.Need-returns
+returns c = let t = c .before in rw (c .is-right .ensures, ← t .before .is-asked .ensures, t .if1 .taken)
+
+returns-2 : tie.Need-returns-2
+returns-2 c = rw (← c .before .is-asked .ensures, c .if1 .left)
+
 pub counts-right-spec : {M : Type 1} → statement M
-counts-right-spec = tie.close (tie.spec (λ c κs. search needs) (λ c κs. search needs) (λ c. rw (c .is-right .ensures, ← c .before .before .is-asked .ensures, c .before .if1 .taken)) (λ c. rw (← c .before .is-asked .ensures, c .if1 .left)))
+counts-right-spec = tie.close (tie.spec (λ c κs. search needs) (λ c κs. search needs) returns returns-2)

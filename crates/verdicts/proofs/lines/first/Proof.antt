@@ -1,9 +1,8 @@
 -- `first` meets its contract: past its end a list reads as 0. Assumes nothing.
-use mathlib.Core.Path.{sym}
 use lib.ListN.{List·getD-eq-default}
 use borrow.Author.Needs.{needs}
 use Rattle.verdicts.proofs.lines.first.Statement.{statement}
 use Rattle.verdicts.proofs.lines.first.Tie as tie
 
 pub first-spec : {M : Type 1} → statement M
-first-spec = tie.close (tie.spec (λ c. search needs) (λ c. search needs) (λ c. sym (List·getD-eq-default (c .before .args .line .now) 0 (c .if1 .left))))
+first-spec = tie.close (tie.spec (λ c. search needs) (λ c. search needs) (λ c. search List·getD-eq-default))

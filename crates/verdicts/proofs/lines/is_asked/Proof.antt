@@ -5,4 +5,9 @@ use Rattle.verdicts.proofs.lines.is_asked.Statement.{statement}
 use Rattle.verdicts.proofs.lines.is_asked.Tie as tie
 
 pub is-asked-spec : {M : Type 1} → statement M
-is-asked-spec = tie.close (tie.spec (λ c. rw (eq-eqb _ _ (c .if1 .taken))) (λ c κs. search needs) (λ c. rw (c .first .ensures, ne-eqb _ _ (c .before .if1 .left))))
+is-asked-spec =
+    tie.close
+    (tie.spec
+    (λ c. rw (eq-eqb _ _ (c .if1 .taken)))
+    (λ c κs. search needs)
+    (λ c. rw (c .first .ensures, ne-eqb _ _ (c .before .if1 .left))))
