@@ -27,7 +27,7 @@ use Rattle.pictures.specs.declared.Rgba.{Rgba}
 use Rattle.blends.specs.Blends.{colorBurnOf}
 use Rattle.pixels.specs.Channel.{overUnionOf}
 use Rattle.pixels.specs.Pixel.{overBy, unused, pixelOf}
-use Rattle.layers.specs.Cells.{natOf, outsideZ, badChannels, badShape}
+use Rattle.pictures.specs.Shapes.{natOf, outsideZ, badChannels, shapeOf, badShape}
 use Rattle.layers.specs.Faults.{badPlacing, badSource, layerFault}
 use Rattle.layers.specs.Inputs.{Inputs, inputsOf, badStack, badDst, rowsFault, jobFault}
 use Rattle.job.specs.declared.Answer.{Answer}
@@ -83,7 +83,7 @@ sameAnswer a number operator = eqb (a .number) number && eqb (a .operator) opera
 -- a destination of 2 by 1 pixels and one layer, Over with all channels, on work buffers that hold anything
 abbrev pub twoByOne : Inputs
 twoByOne =
-    inputsOf (pos 2) (pos 1) (pos 1) (0x3f00_0000 ∷ 0x3f80_0000 ∷ []) (pos 1)
+    inputsOf (shapeOf (pos 2) (pos 1) (pos 1)) (0x3f00_0000 ∷ 0x3f80_0000 ∷ []) (pos 1)
     (pos 0 ∷ pos 0 ∷ pos 0 ∷ pos 0 ∷ pos 62 ∷ pos 0 ∷ pos 1 ∷ pos 1 ∷ pos 1 ∷ pos 0 ∷ [])
     (0 ∷ 0 ∷ 0 ∷ 0 ∷ [])
     (0x3e80_0000 ∷ [])

@@ -17,6 +17,7 @@ use Rattle.vector_lines.specs.Lists.{Listed, listed, numbersAt, bytesAt, wordsA
 use Rattle.vector_lines.proofs.Reading.{signed-back}
 use Rattle.vector_rooms.specs.declared.Shaped.{Shaped}
 use Rattle.vector_rooms.specs.Rooms.{shapeAt, Layered, layered, layersAt, given, Composing, composing, withDst, withLayers, dstAt, listsAt, inputsBy}
+use Rattle.pictures.specs.Shapes.{shapeOf}
 use Rattle.layers.specs.Inputs.{Inputs, inputsOf}
 use Rattle.compose.specs.Single.{Composed, composed, composeOf}
 use Rattle.names.specs.Names.{fromName}
@@ -29,7 +30,7 @@ use Rattle.vector_cases.specs.Cases.{composedAt, composedBy, answeredAt,
 -- the inputs of a call, with the shape's numbers as they are read back from their bits
 abbrev shapeBits : Inputs → Inputs
 shapeBits i =
-    inputsOf (toZ w64 (ofZ w64 (i .width))) (toZ w64 (ofZ w64 (i .height))) (toZ w64 (ofZ w64 (i .channels))) (i .dst) (i .count) (i .table) (i .args)
+    inputsOf (shapeOf (toZ w64 (ofZ w64 (i .shape .width))) (toZ w64 (ofZ w64 (i .shape .height))) (toZ w64 (ofZ w64 (i .shape .channels)))) (i .dst) (i .count) (i .table) (i .args)
     (i .samples)
 
 module _ (line : List ℕ) where
@@ -114,7 +115,7 @@ module _ (line : List ℕ) where
     unfolding composedBy
     output-lent h e = rw (← long, le-ltb 256 (n .value) h, e, sub-zero (n .value))
 
-  pub composed-so : (at : ℕ) (i : Inputs) (out : List ℕ) {n p r : ℕ} {o : List ℕ} → SFits w64 (i .width) → SFits w64 (i .height) → SFits w64 (i .channels)
+  pub composed-so : (at : ℕ) (i : Inputs) (out : List ℕ) {n p r : ℕ} {o : List ℕ} → SFits w64 (i .shape .width) → SFits w64 (i .shape .height) → SFits w64 (i .shape .channels)
       → composed n o ≡ composeOf (shapeBits i) out → p ≡ expectedAt line at n → r ≡ writtenAt 4294967295 2779096485 line p o
       → r ≡ composedAt line at (composeOf i out)
   composed-so at i out fw fh fc is e w = rw (w, e) (ap (λ (a : Composed). composedAt line at a) (rw (toZ-ofZ fw, toZ-ofZ fh, toZ-ofZ fc) at is))
@@ -131,7 +132,7 @@ module _ (line : List ℕ) where
       → shape ≡ shapeAt line → listed d m p ≡ wordsAt line (shape .next) dst (getD counts 0 0)
       → layered q t a s c ≡ layersAt line (layered p table args samples (set counts 0 m))
       → fd ≡ take (getD c 0 0) d → ft ≡ take (getD c 1 0) t → fa ≡ take (getD c 2 0) a → fs ≡ take (getD c 3 0) s
-      → place ≡ composedBy line (inputsOf (shape .width) (shape .height) (shape .channels) fd (pos 1) ft fa fs) (numberAt largest line q)
+      → place ≡ composedBy line (inputsOf (shapeOf (shape .width) (shape .height) (shape .channels)) fd (pos 1) ft fa fs) (numberAt largest line q)
       → composing place d t a s c ≡ compositionAt line (composing 0 dst table args samples counts)
   composition-read dst args samples counts table e1 e2 e3 d t a s e4 =
       composition-of (composing 0 dst table args samples counts) e1 e2 e3 (rw (d, t, a, s) at e4)

@@ -19,6 +19,7 @@ use Rattle.vector_lines.proofs.Reading.{signed-back}
 use Rattle.vector_rooms.specs.declared.Shaped.{Shaped}
 use Rattle.vector_rooms.specs.Rooms.{shapeAt, Layered, layered, layersAt, Worked, worked, memoryAt, leftAt}
 use Rattle.vector_rooms.specs.Rooms.{Composing, composing, withDst, withLayers, dstAt, listsAt, inputsBy}
+use Rattle.pictures.specs.Shapes.{shapeOf}
 use Rattle.layers.specs.Inputs.{Inputs, inputsOf}
 use Rattle.job.specs.Memory.{Mem, memOf, positionOf}
 use Rattle.job.specs.Call.{callOf}
@@ -29,11 +30,11 @@ use Rattle.vector_jobs.specs.Jobs.{leftOn, calledOn, allowedAt, playedAt
 -- the inputs of a call, with each number as it is read back from its bits, and with the count of layers alone so
 abbrev bits : Inputs → Inputs
 bits i =
-    inputsOf (toZ w64 (ofZ w64 (i .width))) (toZ w64 (ofZ w64 (i .height))) (toZ w64 (ofZ w64 (i .channels))) (i .dst) (toZ w64 (ofZ w64 (i .count)))
+    inputsOf (shapeOf (toZ w64 (ofZ w64 (i .shape .width))) (toZ w64 (ofZ w64 (i .shape .height))) (toZ w64 (ofZ w64 (i .shape .channels)))) (i .dst) (toZ w64 (ofZ w64 (i .count)))
     (i .table) (i .args) (i .samples)
 
 abbrev countBits : Inputs → Inputs
-countBits i = inputsOf (i .width) (i .height) (i .channels) (i .dst) (toZ w64 (ofZ w64 (i .count))) (i .table) (i .args) (i .samples)
+countBits i = inputsOf (i .shape) (i .dst) (toZ w64 (ofZ w64 (i .count))) (i .table) (i .args) (i .samples)
 
 -- ---- one call
 
@@ -45,7 +46,7 @@ unfolding outcomeAt
 outcome-read line at m due told e1 e2 e3 e4 e e5 = rw (e5, e, e4, e3, e2, e1) (ap (λ (o : HostOutcome). outcomeAt line at o) told)
 
 pub call-answered : (line : List ℕ) (at allowance : ℕ) (i : Inputs) (m : Mem) {got : Mem} {n l s f p r1 r2 r3 r4 r5 : ℕ}
-    → SFits w64 (i .width) → SFits w64 (i .height) → SFits w64 (i .channels) → SFits w64 (i .count)
+    → SFits w64 (i .shape .width) → SFits w64 (i .shape .height) → SFits w64 (i .shape .channels) → SFits w64 (i .count)
     → hostOutcome got n l s f ≡ jobOutcome (callOf (bits i) allowance m) → r1 ≡ expectedAt line at n → r2 ≡ expectedAt line r1 l
     → r3 ≡ expectedAt line r2 s → r4 ≡ expectedAt line r3 f → p ≡ positionOf got → r5 ≡ expectedAt line r4 p
     → played r5 got ≡ callAt line i allowance (played at m)
@@ -173,7 +174,7 @@ module _ (line : List ℕ) where
       {count p q : ℕ} {w : Worked} → shape ≡ shapeAt line → listed d count p ≡ wordsAt line (shape .next) dst (getD counts 0 0) → n ≡ signedAt line p
       → layered q t a s k ≡ layersAt line (layered (n .next) table args samples (set counts 0 count))
       → fd ≡ take (getD k 0 0) d → ft ≡ take (getD k 1 0) t → fa ≡ take (getD k 2 0) a → fs ≡ take (getD k 3 0) s
-      → w ≡ playedAt line (inputsOf (shape .width) (shape .height) (shape .channels) fd (toZ w64 (ofZ w64 (n .value))) ft fa fs)
+      → w ≡ playedAt line (inputsOf (shapeOf (shape .width) (shape .height) (shape .channels)) fd (toZ w64 (ofZ w64 (n .value))) ft fa fs)
       (worked q (m .work0) (m .work1) (m .checkpoint) k)
       → jobbed d t a s w ≡ jobAt line (composing 0 dst table args samples counts) m
   job-read dst args samples counts table m {p = p} e1 e2 e3 e4 d t a s e5 =

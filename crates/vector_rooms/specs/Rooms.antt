@@ -10,6 +10,7 @@ use Rattle.lent.specs.Lent.{Lent, before, after}
 use Rattle.vector_lines.specs.declared.numbers.Integer.{Integer}
 use Rattle.vector_lines.specs.Numbers.{signedAt}
 use Rattle.vector_lines.specs.Lists.{Listed, wordsAt, longsAt, integersAt, same, ifSame}
+use Rattle.pictures.specs.Shapes.{shapeOf}
 use Rattle.layers.specs.Inputs.{Inputs, inputsOf, inputs}
 use Rattle.vector_rooms.specs.declared.Shaped.{Shaped}
 
@@ -19,12 +20,12 @@ given l = take (l .count) (l .list)
 
 -- ---- width height channels
 
-abbrev pub shapeOf : (width height channels : Integer) → Shaped
-shapeOf width height channels =
+abbrev pub shapedOf : (width height channels : Integer) → Shaped
+shapedOf width height channels =
     record { width = width .value; height = height .value; channels = channels .value; next = channels .next }
 
 unfoldable pub channelsAt : List ℕ → (width height : Integer) → Shaped
-channelsAt line width height = shapeOf width height (signedAt line (height .next))
+channelsAt line width height = shapedOf width height (signedAt line (height .next))
 
 unfoldable pub heightAt : List ℕ → (width : Integer) → Shaped
 heightAt line width = channelsAt line width (signedAt line (width .next))
@@ -109,11 +110,11 @@ listsAt line s = withLayers s (layersAt line (layered (s .next) (s .table) (s .a
 -- the inputs that the lists have, with a count of layers; and those that a function is lent, by its parameters
 abbrev pub inputsBy : Shaped → ℤ → Composing → Inputs
 inputsBy shape layers s =
-    inputsOf (shape .width) (shape .height) (shape .channels) (take (getD (s .counts) 0 0) (s .dst)) layers
+    inputsOf (shapeOf (shape .width) (shape .height) (shape .channels)) (take (getD (s .counts) 0 0) (s .dst)) layers
     (take (getD (s .counts) 1 0) (s .table)) (take (getD (s .counts) 2 0) (s .args)) (take (getD (s .counts) 3 0) (s .samples))
 
 abbrev pub inputsIn : Shaped → (dst : Lent (List ℕ)) → ℤ → (table : Lent (List ℤ)) → (args samples : Lent (List ℕ)) → Inputs
-inputsIn shape = inputs (shape .width) (shape .height) (shape .channels)
+inputsIn shape = inputs (shapeOf (shape .width) (shape .height) (shape .channels))
 
 -- ---- WORK0 WORK1 MARK
 

@@ -6,6 +6,7 @@ use mathlib.Core.Path.{_≡_, refl}
 use lib.ListN.{length}
 use mir.Syntax.{w64}
 use mir.Val.{toZ}
+use Rattle.pictures.specs.Shapes.{shapeOf}
 use Rattle.layers.specs.Inputs.{inputsOf}
 use Rattle.job.specs.Memory.{memOf}
 use Rattle.vector_jobs.specs.Jobs.{played}
@@ -15,7 +16,7 @@ use Rattle.vector_jobs.proofs.calls_on.Tie as tie
 
 abbrev Inv-loop : tie.InvT-loop
 Inv-loop line from shape dst layers table args samples allowances work0₀ work1₀ checkpoint₀ at₀ i₀ work0 work1 checkpoint at i =
-    Calling line (inputsOf (shape .width) (shape .height) (shape .channels) dst (toZ w64 layers) table args samples) allowances
+    Calling line (inputsOf (shapeOf (shape .width) (shape .height) (shape .channels)) dst (toZ w64 layers) table args samples) allowances
     (played from (memOf work0₀ work1₀ checkpoint₀)) (played at (memOf work0 work1 checkpoint)) i
     × (length work0 ≡ length work0₀)
     × (length work1 ≡ length work1₀)
