@@ -1,11 +1,11 @@
 -- `job::pixel::pixel` meets its contract.
 -- The invariant: c of the writes have been made. The measure is what is left of them. Assumes nothing.
-use Prim.Native.Nat.{_-_, _≤_}
+use Prim.Native.Nat.{_+_, _-_, _*_, _<_, _≤_}
 use mathlib.Core.Path.{refl}
 use native.Mathlib.Omega.{arith}
-use Rattle.job.specs.Memory.{Mem, memOf}
+use Rattle.job.specs.Memory.{Mem, memOf, positionOf}
 use Rattle.job.specs.Uses.{batchBy, NextUse}
-use Rattle.job.specs.Steps.{Batch, Midway, Ran}
+use Rattle.job.specs.Steps.{mostPosition, Batch, Midway, Ran}
 use Rattle.job.proofs.Checked.{bounded}
 use Rattle.job.proofs.Parts.{ran-none, ran-on, ran-as, ran-midway, ran-lengths, use-next, use-ran}
 use Rattle.job.proofs.pixel.pixel.Statement.{statement}
@@ -47,8 +47,16 @@ module _ (l : tie.At-loop Inv-loop μ-loop) where
 -- ---- the needs
 
 -- the pixel is before the picture's end, and the position before the job's
+small : (c : tie.In-loop Inv-loop μ-loop)
+    → let s = start (c .before) .args in (4 * (s .from + s .x) < mostPosition) × (positionOf (found (c .before)) < mostPosition)
+small c = let v = midway (c .before) in let b = bounded _ (v .fit) refl refl refl in omega arith
+
 write-of-requires : tie.Need-write-of-requires Inv-loop μ-loop
-write-of-requires c κs = let b = bounded _ (midway (c .before .before) .fit) refl refl refl in let v = midway (c .before .before) in omega arith
+write-of-requires c κs =
+    let l = c .before in
+    let s = start (l .before) in
+    let b = small l in
+    (omega (arith, s .pre .2, l .loop-test), λ h. omega (arith, s .pre .1 .room, l .loop-test), b .0, b .1)
 
 -- the call's next write
 next : (c : tie.After-write-of Inv-loop μ-loop) → let l = pass c in NextUse (batch l) (l .loop .uses) (found l) (c .write-of .result)
@@ -72,7 +80,7 @@ pixel-spec =
     Inv-loop
     μ-loop
     (λ c. (omega arith, ran-none))
-    (λ c. omega arith)
+    (λ c. omega (arith, small c .0))
     (λ c. omega (arith, midway (c .before .before) .sized .checkpoint))
     write-of-requires
     (λ c κs. next (written c))
