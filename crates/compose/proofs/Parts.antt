@@ -8,7 +8,8 @@ use lib.ListN.{length, take, drop, length-drop, drop-of-length-le}
 use lib.Seq.{take-all, take-at, drop-at, drop-drop}
 use borrow.Rule.Slice.PartMut.{midOf, putMid}
 use Rattle.pictures.specs.Widen.{rgbaAt, valuesOf}
-use Rattle.pictures.specs.FlatWords.{flat, filled, putOf}
+use Rattle.pictures.specs.FlatWords.{flat}
+use Rattle.pictures.specs.Steps.{filled, putOf}
 use Rattle.pictures.specs.declared.Words.{Words}
 use Rattle.pictures.proofs.FlatWords.{flat-same, flat-append, length-flat, filled-more, part-at, flat-pixel}
 use Rattle.compose.specs.Plans.{composedBy, pixelsFrom, pixelOn}

@@ -4,7 +4,7 @@ ghost use Prim.Native.Nat.{_*_, _<_, _≤_};
 ghost use lib.ListN.{length};
 ghost use Rattle.lent.specs.Lent.{before};
 ghost use Rattle.layers.specs.GoodLayers.{Picture};
-ghost use Rattle.pictures.specs.Bilinear.{valuesAt};
+ghost use Rattle.pictures.specs.Steps.{valuesAt};
 ghost use Rattle.places.specs.Bounds.{slack, Under};
 ghost use Rattle.compose.specs.Compose.{sourcePixel, mapCoordinate, mapAxis, writtenWord, writtenOf};
 ghost use Rattle.compose.specs.Plans.{indexBy, writesBy, mappedBy, paintedBy, resultBy, composedBy};

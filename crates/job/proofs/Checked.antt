@@ -17,8 +17,8 @@ use Rattle.job.specs.declared.Extent.{Extent}
 use Rattle.job.specs.Memory.{Mem, positionOf}
 use Rattle.job.specs.Job.{pixelCount, layerCount, phaseAt, pixelAt, endOf, memoryFault, callFault, acceptance, refusal}
 use Rattle.job.specs.Call.{madeOf, outcome, acceptedOf, callOf}
-use Rattle.job.specs.Steps.{Sized, Batch, batchOf, Midway, Ran}
-use Rattle.job.specs.Uses.{batchBy}
+use Rattle.job.specs.Steps.{Ran, batchBy}
+use Rattle.job.specs.Uses.{Sized, Batch, batchOf, Midway}
 
 -- ---- the faults
 

@@ -20,7 +20,7 @@ use Rattle.job.specs.Call.{madeOf, leftBy, outcome, acceptedOf, callOf}
 use Rattle.job.specs.Loans.{lent}
 use Rattle.job.specs.Model.{pictureOf, entriesOf, Call, allowed, cut, refused, modelOf}
 use Rattle.job.specs.Demand.{programOf, history, memoryAfter, FairCall, Fair, beneathIn, beneathOf, Underway, Demand3}
-use Rattle.job.specs.Steps.{batchOf, Midway}
+use Rattle.job.specs.Uses.{batchOf, Midway}
 use Rattle.job.proofs.Runs.{place-div, start-midway}
 use Rattle.job.proofs.Sequence.{work-length, picture-length, left-length, Beneath, begun-again, Progress, Made, made}
 use Rattle.job.proofs.Checked.{some-pixel, call-midway, midway-call, call-made, call-refused}

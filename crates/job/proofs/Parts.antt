@@ -15,18 +15,18 @@ use Rattle.layers.specs.Inputs.{Inputs}
 use Rattle.layers.specs.Layers.{layerAt}
 use Rattle.pictures.specs.declared.Words.{Words}
 use Rattle.pictures.specs.Widen.{rgbaAt}
-use Rattle.pictures.specs.FlatWords.{filled}
+use Rattle.pictures.specs.Steps.{filled}
 use Rattle.pictures.proofs.FlatWords.{flat-pixel}
 use Rattle.compose.specs.declared.Plan.{Plan}
 use Rattle.compose.specs.Compose.{sourceOf}
 use Rattle.compose.specs.Plans.{planOf, pixelOn}
 use Rattle.compose.specs.Ready.{Planned, Span}
 use Rattle.job.specs.declared.Write.{Write}
-use Rattle.job.specs.Memory.{Mem, put, InRange, writeOf, positionOf, memOf, workIn}
+use Rattle.job.specs.Memory.{Mem, put, writeOf, positionOf, memOf, workIn}
+use Rattle.job.specs.Steps.{InRange, Part, Ran, Buffered}
 use Rattle.job.specs.Job.{pixelCount}
 use Rattle.job.specs.Call.{phasePixel, runOf}
-use Rattle.job.specs.Uses.{NextUse}
-use Rattle.job.specs.Steps.{Batch, Midway, Part, Ran, Buffered}
+use Rattle.job.specs.Uses.{NextUse, Batch, Midway}
 use Rattle.job.proofs.Runs.{write-range, write-is, run-split, run-midway, run-under, under-pixel}
 
 module _ {b : Batch} where

@@ -15,10 +15,11 @@ use Rattle.layers.specs.Inputs.{Inputs}
 use Rattle.pictures.specs.Widen.{rgbaAt}
 use Rattle.job.specs.declared.Write.{Write}
 use Rattle.job.specs.declared.Write.the-variants.{Work0, Work1, Checkpoint}
-use Rattle.job.specs.Memory.{Mem, put, InRange, stored, workOf, wordWrite, writeOf, positionOf}
+use Rattle.job.specs.Memory.{Mem, put, stored, workOf, wordWrite, writeOf, positionOf}
+use Rattle.job.specs.Steps.{InRange}
 use Rattle.job.specs.Job.{pixelCount, phaseAt, pixelAt, endOf}
 use Rattle.job.specs.Call.{phasePixel, writeAt, runOf}
-use Rattle.job.specs.Steps.{Sized, Batch, Midway}
+use Rattle.job.specs.Uses.{Sized, Batch, Midway}
 use Rattle.job.proofs.Checked.{pixel-within}
 
 -- ---- any write

@@ -20,7 +20,7 @@ use Rattle.job.specs.declared.Write.the-variants.{Checkpoint}
 use Rattle.job.specs.Memory.{Mem, positionOf, put, stored, workOf, wordWrite, fiveWrites, writeOf}
 use Rattle.job.specs.Job.{pixelCount, layerCount, phaseAt, pixelAt, endOf, callFault}
 use Rattle.job.specs.Call.{phasePixel, writeAt, runOf}
-use Rattle.job.specs.Steps.{Works, Sized}
+use Rattle.job.specs.Uses.{Works, Sized}
 use Rattle.job.specs.Model.{pictureOf, blocks, pictureWrites, writeSequence}
 use Rattle.job.proofs.Checked.{some-pixel, phase-within, pixel-within, call-midway}
 use Rattle.job.proofs.Runs.{stored-snoc, word-of, word-same, word-other, place-div, place-mod, start-midway}

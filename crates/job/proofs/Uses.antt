@@ -16,8 +16,7 @@ use Rattle.job.specs.declared.Write.the-variants.{Checkpoint}
 use Rattle.job.specs.Memory.{Mem, put, stored, positionOf}
 use Rattle.job.specs.Job.{endOf, callFault}
 use Rattle.job.specs.Call.{writeAt, runOf, acceptedOf, callOf}
-use Rattle.job.specs.Steps.{Batch, batchOf, Midway}
-use Rattle.job.specs.Uses.{NextUse, UsesFrom}
+use Rattle.job.specs.Uses.{Batch, batchOf, Midway, NextUse, UsesFrom}
 use Rattle.job.specs.Model.{writeSequence, entriesOf}
 use Rattle.job.proofs.Checked.{call-midway, call-made}
 use Rattle.job.proofs.Parts.{ran-midway, use-ran}

@@ -11,8 +11,7 @@ use Rattle.job.specs.Memory.{Mem, positionOf, workOf}
 use Rattle.job.specs.Job.{phaseAt, pixelAt, layerCount, endOf, callFault}
 use Rattle.job.specs.declared.Write.{Write}
 use Rattle.job.specs.Call.{callOf}
-use Rattle.job.specs.Steps.{batchOf}
-use Rattle.job.specs.Uses.{UsesFrom}
+use Rattle.job.specs.Uses.{batchOf, UsesFrom}
 use Rattle.job.specs.Loans.{lent, returned}
 use Rattle.job.specs.Model.{pictureOf, entriesOf, Call, allowed, cut, refused, Seen, modelOf}
 

@@ -5,7 +5,6 @@ use mathlib.Core.List.{List, [], _∷_}
 use Prim.Native.Nat.{ℕ, _+_, _*_, _%_, _<_}
 use lib.Dec.{eqb}
 use lib.ListN.{length, getD, set}
-use denote.Ref.{RefT, now}
 use Rattle.lent.specs.Lent.{Lent, before, after}
 use Rattle.pictures.specs.declared.Words.{Words}
 use Rattle.job.specs.declared.Write.{Write}
@@ -19,10 +18,7 @@ pub record Mem : Type 0 where
 abbrev pub memOf : List ℕ → List ℕ → List ℕ → Mem
 memOf work0 work1 checkpoint = record { work0 = work0; work1 = work1; checkpoint = checkpoint }
 
--- the memory that a function is lent, by its parameters: as a `requires` names them, and, as an `ensures` does, what it finds and what it leaves
-abbrev pub held : (work0 work1 checkpoint : RefT (List ℕ)) → Mem
-held work0 work1 checkpoint = memOf (now work0) (now work1) (now checkpoint)
-
+-- the memory that a function is lent, by its parameters, as an `ensures` names them: what it finds and what it leaves
 abbrev pub found : (work0 work1 checkpoint : Lent (List ℕ)) → Mem
 found work0 work1 checkpoint = memOf (before work0) (before work1) (before checkpoint)
 
@@ -38,12 +34,6 @@ abbrev pub put : Write → Mem → Mem
 put (Work0 at word) m = memOf (set (m .work0) at word) (m .work1) (m .checkpoint)
 put (Work1 at word) m = memOf (m .work0) (set (m .work1) at word) (m .checkpoint)
 put (Checkpoint position) m = memOf (m .work0) (m .work1) (set (m .checkpoint) 0 position)
-
--- the number that a write names is there
-abbrev pub InRange : Mem → Write → Type 0
-InRange m (Work0 at word) = at < length (m .work0)
-InRange m (Work1 at word) = at < length (m .work1)
-InRange m (Checkpoint position) = 0 < length (m .checkpoint)
 
 -- the memory after several writes, in their order
 unfoldable pub stored : List Write → Mem → Mem

@@ -2,47 +2,54 @@
 use mathlib.Core.Path.{_≡_}
 use mathlib.Core.List.{List}
 use Prim.Native.Nat.{ℕ, _+_, _*_, _/_, _%_, _<_, _≤_}
+use lib.IntN.{ℤ, pos}
 use lib.ListN.{length}
+use denote.Ref.{RefT, now}
+use Rattle.lent.specs.Lent.{Lent, before}
 use Rattle.faults.specs.Faults.{NONE}
-use Rattle.layers.specs.Inputs.{Inputs, jobFault}
+use Rattle.layers.specs.Inputs.{inputsOf, jobFault}
+use Rattle.pictures.specs.Shapes.{shapeOf}
 use Rattle.pictures.specs.Widen.{rgbaAt}
-use Rattle.job.specs.Memory.{Mem, positionOf}
-use Rattle.job.specs.Job.{pixelCount, layerCount, endOf}
-use Rattle.job.specs.Call.{phasePixel, runOf, madeOf}
+use Rattle.job.specs.declared.Extent.{Extent}
+use Rattle.job.specs.declared.Write.{Write}
+use Rattle.job.specs.declared.Write.the-variants.{Work0, Work1, Checkpoint}
+use Rattle.job.specs.Memory.{Mem, memOf}
+use Rattle.job.specs.Job.{pixelCount, layerCount}
+use Rattle.job.specs.Call.{phasePixel, runOf}
+use Rattle.job.specs.Uses.{Works, Batch, Midway}
 
 -- a bound of positions and of places in a list, 2^62; it is slack
 abbrev pub mostPosition : ℕ
 mostPosition = 4611686018427387904
 
--- ---- the state of a call
+-- ---- a function's parameters, as its contract names them
 
--- both work buffers have the length of a picture of so many pixels
-pub record Works (pixels : ℕ) (work0 work1 : List ℕ) : Type 0 where
-  pub length0 : length work0 ≡ 4 * pixels
-  pub length1 : length work1 ≡ 4 * pixels
+-- the memory that it is lent, in a `requires`
+abbrev pub held : (work0 work1 checkpoint : RefT (List ℕ)) → Mem
+held work0 work1 checkpoint = memOf (now work0) (now work1) (now checkpoint)
 
--- lists of the lengths that a job asks for
-pub record Sized (i : Inputs) (m : Mem) : Type 0 where
-  pub works : Works (pixelCount i) (m .work0) (m .work1)
-  pub checkpoint : length (m .checkpoint) ≡ 1
+-- the writes of an accepted call, by its numbers and the lists of its inputs
+abbrev pub batchBy : Extent → (dst : List ℕ) → (table : List ℤ) → (args samples : List ℕ) → Batch
+batchBy e dst table args samples = record {
+  inputs = inputsOf (shapeOf (pos (e .width)) (pos (e .height)) (pos (e .channels))) dst (pos (e .layers)) table args samples;
+  start = e .start;
+  due = e .due;
+}
 
--- The writes of an accepted call: those of the job with these inputs, from the position `start` on, `due` of them.
-pub record Batch : Type 0 where
-  pub inputs : Inputs
-  pub start : ℕ
-  pub due : ℕ
+-- the same by a function's parameters: as a `requires` names them, and as an `ensures` does
+abbrev pub heldBatch : Extent → (dst : RefT (List ℕ)) → (table : RefT (List ℤ)) → (args samples : RefT (List ℕ)) → Batch
+heldBatch e dst table args samples = batchBy e (now dst) (now table) (now args) (now samples)
 
--- of a call that finds memory m and is allowed so many
-abbrev pub batchOf : Inputs → (allowance : ℕ) → Mem → Batch
-batchOf i allowance m = record { inputs = i; start = positionOf m; due = madeOf i allowance m }
+abbrev pub lentBatch : Extent → (dst : Lent (List ℕ)) → (table : Lent (List ℤ)) → (args samples : Lent (List ℕ)) → Batch
+lentBatch e dst table args samples = batchBy e (before dst) (before table) (before args) (before samples)
 
--- The call has made `uses` of them: the inputs have no fault, the lists have their lengths, the position is where the count says, and no write that is due
--- is past the job's end.
-pub record Midway (b : Batch) (uses : ℕ) (m : Mem) : Type 0 where
-  pub fit : jobFault (b .inputs) .number ≡ NONE
-  pub sized : Sized (b .inputs) m
-  pub position : positionOf m ≡ b .start + uses / 5
-  pub within : 5 * b .start + b .due ≤ 5 * endOf (b .inputs)
+-- ---- writes
+
+-- the number that a write names is there
+abbrev pub InRange : Mem → Write → Type 0
+InRange m (Work0 at word) = at < length (m .work0)
+InRange m (Work1 at word) = at < length (m .work1)
+InRange m (Checkpoint position) = 0 < length (m .checkpoint)
 
 -- Its next n writes are those of picture k from pixel j on, of which none has been made.
 pub record Part (b : Batch) (uses k j n : ℕ) (m : Mem) : Type 0 where

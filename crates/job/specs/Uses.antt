@@ -2,32 +2,46 @@
 -- call allowed i leaves"). Definitions only; proofs/Uses has the theorems.
 use mathlib.Core.Path.{_≡_}
 use mathlib.Core.List.{List, [], _∷_}
-use Prim.Native.Nat.{ℕ, _+_, _*_, _<_}
-use lib.IntN.{ℤ, pos}
-use denote.Ref.{RefT, now}
-use Rattle.lent.specs.Lent.{Lent, before}
-use Rattle.pictures.specs.Shapes.{shapeOf}
-use Rattle.layers.specs.Inputs.{inputsOf}
-use Rattle.job.specs.declared.Extent.{Extent}
+use Prim.Native.Nat.{ℕ, _+_, _*_, _/_, _<_, _≤_}
+use lib.ListN.{length}
+use Rattle.faults.specs.Faults.{NONE}
+use Rattle.layers.specs.Inputs.{Inputs, jobFault}
 use Rattle.job.specs.declared.Write.{Write}
-use Rattle.job.specs.Memory.{Mem, put}
-use Rattle.job.specs.Steps.{Batch, Midway}
-use Rattle.job.specs.Call.{writeAt}
+use Rattle.job.specs.Memory.{Mem, positionOf, put}
+use Rattle.job.specs.Job.{pixelCount, endOf}
+use Rattle.job.specs.Call.{writeAt, madeOf}
 
--- the writes of an accepted call, by its numbers and the lists of its inputs
-abbrev pub batchBy : Extent → (dst : List ℕ) → (table : List ℤ) → (args samples : List ℕ) → Batch
-batchBy e dst table args samples = record {
-  inputs = inputsOf (shapeOf (pos (e .width)) (pos (e .height)) (pos (e .channels))) dst (pos (e .layers)) table args samples;
-  start = e .start;
-  due = e .due;
-}
+-- ---- the state of a call
 
--- the same by a function's parameters: as a `requires` names them, and as an `ensures` does
-abbrev pub heldBatch : Extent → (dst : RefT (List ℕ)) → (table : RefT (List ℤ)) → (args samples : RefT (List ℕ)) → Batch
-heldBatch e dst table args samples = batchBy e (now dst) (now table) (now args) (now samples)
+-- both work buffers have the length of a picture of so many pixels
+pub record Works (pixels : ℕ) (work0 work1 : List ℕ) : Type 0 where
+  pub length0 : length work0 ≡ 4 * pixels
+  pub length1 : length work1 ≡ 4 * pixels
 
-abbrev pub lentBatch : Extent → (dst : Lent (List ℕ)) → (table : Lent (List ℤ)) → (args samples : Lent (List ℕ)) → Batch
-lentBatch e dst table args samples = batchBy e (before dst) (before table) (before args) (before samples)
+-- lists of the lengths that a job asks for
+pub record Sized (i : Inputs) (m : Mem) : Type 0 where
+  pub works : Works (pixelCount i) (m .work0) (m .work1)
+  pub checkpoint : length (m .checkpoint) ≡ 1
+
+-- The writes of an accepted call: those of the job with these inputs, from the position `start` on, `due` of them.
+pub record Batch : Type 0 where
+  pub inputs : Inputs
+  pub start : ℕ
+  pub due : ℕ
+
+-- of a call that finds memory m and is allowed so many
+abbrev pub batchOf : Inputs → (allowance : ℕ) → Mem → Batch
+batchOf i allowance m = record { inputs = i; start = positionOf m; due = madeOf i allowance m }
+
+-- The call has made `uses` of them: the inputs have no fault, the lists have their lengths, the position is where the count says, and no write that is due
+-- is past the job's end.
+pub record Midway (b : Batch) (uses : ℕ) (m : Mem) : Type 0 where
+  pub fit : jobFault (b .inputs) .number ≡ NONE
+  pub sized : Sized (b .inputs) m
+  pub position : positionOf m ≡ b .start + uses / 5
+  pub within : 5 * b .start + b .due ≤ 5 * endOf (b .inputs)
+
+-- ---- the uses
 
 -- What `store` asks of a use: the call has made `uses` of its writes and has some left; and this is the next, by the memory now.
 pub record NextUse (b : Batch) (uses : ℕ) (m : Mem) (w : Write) : Type 0 where

@@ -2,8 +2,9 @@
 ghost use mathlib.Core.Path.{_≡_};
 ghost use Prim.Native.Nat.{_+_};
 ghost use Rattle.lent.specs.Lent.{before, after};
-ghost use Rattle.job.specs.Memory.{held, found, left, put};
-ghost use Rattle.job.specs.Uses.{heldBatch, NextUse};
+ghost use Rattle.job.specs.Memory.{found, left, put};
+ghost use Rattle.job.specs.Steps.{held, heldBatch};
+ghost use Rattle.job.specs.Uses.{NextUse};
 use crate::Extent;
 use crate::Write;
 

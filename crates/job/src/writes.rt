@@ -1,9 +1,9 @@
 // The writes of an accepted call, span by span: pixels of one phase are composed into a private buffer and written from it.
 ghost use mathlib.Core.Path.{_≡_};
 ghost use Rattle.lent.specs.Lent.{after};
-ghost use Rattle.job.specs.Memory.{held, found, left};
-ghost use Rattle.job.specs.Uses.{heldBatch, lentBatch};
-ghost use Rattle.job.specs.Steps.{Midway, Ran};
+ghost use Rattle.job.specs.Memory.{found, left};
+ghost use Rattle.job.specs.Steps.{held, heldBatch, lentBatch, Ran};
+ghost use Rattle.job.specs.Uses.{Midway};
 use crate::Extent;
 use crate::fill::fill;
 use crate::pixel::write_out;

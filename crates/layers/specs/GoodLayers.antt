@@ -5,7 +5,7 @@ use Prim.Native.Nat.{ℕ, _+_, _*_, _≤_}
 use lib.Signed.{mag}
 use Rattle.operators.specs.declared.CompositeOp.{CompositeOp}
 use Rattle.operators.specs.declared.CompositeOp.the-variants.{Interpolate, Blur}
-use Rattle.pictures.specs.Shapes.{Channels}
+use Rattle.pictures.specs.Steps.{Channels}
 use Rattle.places.specs.Bounds.{slack}
 use Rattle.layers.specs.declared.Layer.{Layer}
 use Rattle.layers.specs.Limits.{argWords}

@@ -10,7 +10,8 @@ use lib.IntN.{ℤ}
 use lib.ListN.{length}
 use borrow.Author.Tests.{eqb-true, not-false}
 use Rattle.faults.specs.Faults.{NONE, NARROW}
-use Rattle.pictures.specs.Shapes.{natOf, badChannels, Channels}
+use Rattle.pictures.specs.Shapes.{natOf, badChannels}
+use Rattle.pictures.specs.Steps.{Channels}
 use Rattle.pictures.proofs.Ranges.{all-fail, channelled}
 use Rattle.narrowing.specs.Narrow.{narrowedOf, narrowFault, acceptedChannels}
 use Rattle.narrowing.proofs.Narrowed.{length-narrowed}

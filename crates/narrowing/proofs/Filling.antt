@@ -10,7 +10,8 @@ use lib.IntN.{ℤ}
 use lib.ListN.{length, getD, take, drop, set, length-set, length-map, drop-of-length-le, List·getD-map}
 use lib.Seq.{paste-suc, take-all}
 use Rattle.faults.specs.Faults.{NONE, NARROW}
-use Rattle.pictures.specs.Shapes.{natOf, Channels}
+use Rattle.pictures.specs.Shapes.{natOf}
+use Rattle.pictures.specs.Steps.{Channels}
 use Rattle.narrowing.specs.Narrow.{narrowedOf, narrowFault, narrowed, narrowedUnless, acceptedChannels}
 use Rattle.narrowing.proofs.Accepting.{Accepted, accepted, refused}
 

@@ -10,7 +10,7 @@ use lib.Seq.{getD-append-add, getD-take}
 use Rattle.float_steps.specs.Words.{wordOf}
 use Rattle.pictures.specs.declared.Words.{Words}
 use Rattle.pictures.specs.Widen.{wordsOf, fourAt, rgbaAt, valuesOf}
-use Rattle.pictures.specs.Shapes.{Channels}
+use Rattle.pictures.specs.Steps.{Channels}
 use Rattle.pictures.proofs.FlatWords.{rgba-further}
 use Rattle.narrowing.specs.Luma.{lumaOf}
 use Rattle.narrowing.specs.Narrow.{narrowedPixel, narrowedOf}

@@ -5,7 +5,7 @@ ghost use mathlib.Core.Path.{_≡_};
 ghost use Prim.Native.Nat.{_*_, _/_, _<_};
 ghost use lib.ListN.{length, getD};
 ghost use Rattle.lent.specs.Lent.{before, after};
-ghost use Rattle.pictures.specs.Shapes.{Channels};
+ghost use Rattle.pictures.specs.Steps.{Channels};
 ghost use Rattle.narrowing.specs.Luma.{lumaOf};
 ghost use Rattle.narrowing.specs.Narrow.{narrowedOf, narrowed, narrowOf, narrowBytesOf, acceptedChannels};
 use faults::Fault;

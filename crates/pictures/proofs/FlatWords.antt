@@ -8,7 +8,8 @@ use lib.ListN.{length, getD, drop, set, length-append, length-drop, drop-of-leng
 use lib.Seq.{drop-drop, getD-drop}
 use Rattle.pictures.specs.declared.Words.{Words}
 use Rattle.pictures.specs.Widen.{rgbaAt}
-use Rattle.pictures.specs.FlatWords.{flat, filled, putOf}
+use Rattle.pictures.specs.FlatWords.{flat}
+use Rattle.pictures.specs.Steps.{filled, putOf}
 
 -- ---- flat
 

@@ -8,7 +8,7 @@ use lib.Ieee.{Float}
 use Rattle.float_steps.specs.Axis.{axisOf}
 use Rattle.float_steps.specs.declared.axis.Axis.{Axis}
 use Rattle.float_steps.proofs.AxisInside.{axis-inside}
-use Rattle.pictures.specs.Bilinear.{InPicture}
+use Rattle.pictures.specs.Steps.{InPicture}
 use native.Mathlib.Nat.{mul-le-mul-left, mul-le-mul-right, mul-one, one-mul, suc-mul, mul-comm}
 
 -- column x of row y, in a picture of w by h pixels

@@ -10,7 +10,8 @@ use lib.IntN.{ℤ, pos, negsuc}
 use lib.Signed.{mag}
 use borrow.Author.Tests.{ltb-false, eqb-true, not-false}
 use Rattle.pictures.specs.declared.Shape.{Shape}
-use Rattle.pictures.specs.Shapes.{natOf, outsideZ, badChannels, Channels, mostSide, badShape, sampleCount}
+use Rattle.pictures.specs.Shapes.{natOf, outsideZ, badChannels, mostSide, badShape, sampleCount}
+use Rattle.pictures.specs.Steps.{Channels}
 
 -- ---- tests that fail
 

@@ -1,19 +1,13 @@
 -- `bilinear_into` (deep.rs 244 to 274): a picture of w by h pixels, neither side 0, read at (x, y). Three parts: where, which the two axes
 -- say; the four neighbours, p00, p10, p01 and p11; and their mixture. Definitions only.
-use Prim.Native.Nat.{ℕ, _+_, _*_, _≤_, _<_}
-use mathlib.Core.Path.{_≡_}
+use Prim.Native.Nat.{ℕ, _+_, _*_}
 use mathlib.Core.List.{List, [], _∷_}
-use lib.ListN.{getD, length}
+use lib.ListN.{getD}
 use lib.Ieee.{Float, nan}
 use Rattle.float_steps.specs.Notation.{_⊕_, _⊖_, _⊗_, f1}
 use Rattle.float_steps.specs.Axis.{axisOf}
 use Rattle.float_steps.specs.declared.axis.Axis.{Axis}
-use Rattle.pictures.specs.Widen.{rgbaAt, valuesOf}
 use Rattle.pictures.specs.declared.Rgba.{Rgba}
-
--- the values of a picture's pixel j
-abbrev pub valuesAt : List ℕ → (channels : ℕ) → (j : ℕ) → Rgba
-valuesAt picture channels j = valuesOf (rgbaAt picture channels j)
 
 abbrev pub channelsOf : Rgba → List Float
 channelsOf p = p .r ∷ p .g ∷ p .b ∷ p .a ∷ []
@@ -40,13 +34,3 @@ mixOf p fx fy = record { r = mixedOf p 0 fx fy; g = mixedOf p 1 fx fy; b = mixed
 
 unfoldable pub bilinearOf : (ℕ → Rgba) → ℕ → ℕ → Float → Float → Rgba
 bilinearOf at w h x y = mixOf (neighboursOf at w (axisOf x w) (axisOf y h)) (axisOf x w .along) (axisOf y h .along)
-
--- what reading the neighbours asks: both places of both axes lie in the picture
-pub record InPicture (picture : List ℕ) (channels w h : ℕ) (x y : Axis) : Type 0 where
-  pub some : 1 ≤ channels
-  pub most : channels ≤ 4
-  pub left : x .at < w
-  pub right : x .next < w
-  pub upper : y .at < h
-  pub lower : y .next < h
-  pub whole : length picture ≡ w * h * channels

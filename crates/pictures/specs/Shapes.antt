@@ -1,8 +1,6 @@
 -- A picture's sides and channels as a caller gives them, any numbers, and which of them are accepted (document 01: sides of 0 to 2,048, channels 1, 3 or 4).
 -- Definitions only.
 use mathlib.Core.Bool.{Bool, true, not, _||_}
-use mathlib.Core.Logic.{_⊎_}
-use mathlib.Core.Path.{_≡_}
 use Prim.Native.Nat.{ℕ, _*_}
 use lib.Dec.{eqb}
 use lib.IntN.{ℤ, pos, negsuc}
@@ -22,10 +20,6 @@ outsideZ lo hi z = ltZ z lo || ltZ hi z
 unfoldable pub badChannels : ℤ → Bool
 badChannels (pos n) = not (eqb n 1 || eqb n 3 || eqb n 4)
 badChannels (negsuc n) = true
-
--- the same of a natural number, as a fact
-abbrev pub Channels : ℕ → Type 0
-Channels n = (n ≡ 1) ⊎ ((n ≡ 3) ⊎ (n ≡ 4))
 
 -- the largest side; `Shape::SIDE` has the same value
 abbrev pub mostSide : ℕ

@@ -4,7 +4,7 @@ ghost use Prim.Native.Nat.{_+_, _*_, _≤_, _<_};
 ghost use lib.ListN.{length};
 ghost use Rattle.lent.specs.Lent.{before, after};
 ghost use Rattle.pictures.specs.Widen.{rgbaAt};
-ghost use Rattle.pictures.specs.FlatWords.{filled, putOf};
+ghost use Rattle.pictures.specs.Steps.{filled, putOf};
 use crate::Words;
 use crate::widen::rgba_at;
 

@@ -5,10 +5,17 @@ use mir.Facts.{toZ-ofZ}
 use Rattle.tray.proofs.tray_job.Statement.{statement}
 use Rattle.tray.proofs.tray_job.Tie as tie
 
+-- where the job's call has returned, and the start
+abbrev ran : tie.After-flag → tie.After-run
+ran c = c .before .before .before .before .before .before .before
+
+abbrev start : tie.After-run → tie.Start
+start r = r .before .before .before .before .before .before .before .before .before .before
+
 returns : tie.Need-returns
 returns c =
-    let r = c .before .before .before .before .before .before .before in
-    let f = r .before .before .before .before .before .before .before .before .before .before .fits in
+    let r = ran c in
+    let f = start r .fits in
     let called = rw (toZ-ofZ (f .width), toZ-ofZ (f .height), toZ-ofZ (f .channels), toZ-ofZ (f .layers)) at (r .run .ensures) in
     rw (c .flag .ensures, ← called) refl
 

@@ -7,8 +7,8 @@ use native.Mathlib.Omega.{arith}
 use borrow.Author.Needs.{needs}
 use lib.ListN.{length}
 use Rattle.pictures.specs.Widen.{rgbaAt}
-use Rattle.pictures.specs.FlatWords.{flat, filled}
-use Rattle.pictures.specs.Bilinear.{valuesAt}
+use Rattle.pictures.specs.FlatWords.{flat}
+use Rattle.pictures.specs.Steps.{filled, valuesAt}
 use Rattle.compose.specs.Plans.{pixelsFrom}
 use Rattle.compose.specs.Ready.{Beneath}
 use Rattle.compose.proofs.Parts.{put-more}

@@ -6,7 +6,8 @@ use native.Mathlib.Omega.{arith}
 use borrow.Author.Needs.{needs}
 use lib.ListN.{length, length-take, length-drop}
 use Rattle.pictures.specs.Widen.{rgbaAt}
-use Rattle.pictures.specs.FlatWords.{flat, filled}
+use Rattle.pictures.specs.FlatWords.{flat}
+use Rattle.pictures.specs.Steps.{filled}
 use Rattle.pictures.proofs.FlatWords.{length-filled, filled-all}
 use Rattle.compose.specs.Plans.{pixelOn}
 use Rattle.compose.specs.Ready.{Span}

@@ -10,7 +10,7 @@ use Rattle.layers.specs.Inputs.{Inputs, inputsOf, jobFault}
 use Rattle.job.specs.Memory.{Mem, memOf, positionOf}
 use Rattle.job.specs.Job.{endOf, acceptance}
 use Rattle.job.specs.Call.{madeOf, outcome}
-use Rattle.job.specs.Steps.{Batch, batchOf, Midway}
+use Rattle.job.specs.Uses.{Batch, batchOf, Midway}
 use Rattle.job.proofs.Checked.{end-is, Bounded, bounded, call-inputs, call-midway, batch-is, call-accepted}
 use Rattle.job.proofs.call.accepted.Statement.{statement}
 use Rattle.job.proofs.call.accepted.Tie as tie

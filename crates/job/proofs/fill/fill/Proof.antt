@@ -13,7 +13,7 @@ use Rattle.layers.proofs.Accepted.{Accepted, accepted, destination}
 use Rattle.pictures.proofs.Ranges.{channels-least, channels-most}
 use Rattle.compose.specs.Ready.{Ready, Span}
 use Rattle.job.specs.Job.{pixelCount, layerCount}
-use Rattle.job.specs.Uses.{batchBy}
+use Rattle.job.specs.Steps.{batchBy}
 use Rattle.job.proofs.Parts.{fill-first, fill-later, plan-span}
 use Rattle.job.proofs.fill.fill.Statement.{statement}
 use Rattle.job.proofs.fill.fill.Tie as tie

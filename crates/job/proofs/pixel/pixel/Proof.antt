@@ -4,8 +4,8 @@ use Prim.Native.Nat.{_+_, _-_, _*_, _<_, _≤_}
 use mathlib.Core.Path.{refl}
 use native.Mathlib.Omega.{arith}
 use Rattle.job.specs.Memory.{Mem, memOf, positionOf}
-use Rattle.job.specs.Uses.{batchBy, NextUse}
-use Rattle.job.specs.Steps.{mostPosition, Batch, Midway, Ran}
+use Rattle.job.specs.Uses.{NextUse, Batch, Midway}
+use Rattle.job.specs.Steps.{batchBy, mostPosition, Ran}
 use Rattle.job.proofs.Checked.{bounded}
 use Rattle.job.proofs.Parts.{ran-none, ran-on, ran-as, ran-midway, ran-lengths, use-next, use-ran}
 use Rattle.job.proofs.pixel.pixel.Statement.{statement}

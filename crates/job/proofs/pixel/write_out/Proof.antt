@@ -3,8 +3,7 @@
 use Prim.Native.Nat.{_-_, _*_, _/_, _≤_}
 use native.Mathlib.Omega.{arith}
 use Rattle.job.specs.Memory.{memOf}
-use Rattle.job.specs.Uses.{batchBy}
-use Rattle.job.specs.Steps.{Ran}
+use Rattle.job.specs.Steps.{batchBy, Ran}
 use Rattle.job.proofs.Parts.{ran-none, ran-on, ran-lengths, pixel-asks}
 use Rattle.job.proofs.pixel.write_out.Statement.{statement}
 use Rattle.job.proofs.pixel.write_out.Tie as tie

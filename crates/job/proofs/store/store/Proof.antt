@@ -3,7 +3,8 @@ use mathlib.Core.Path.{_≡_, refl, sym, ap, subst}
 use native.Mathlib.Omega.{arith}
 use borrow.Author.Needs.{needs}
 use Rattle.job.specs.declared.Write.{Write}
-use Rattle.job.specs.Memory.{Mem, memOf, put, InRange}
+use Rattle.job.specs.Memory.{Mem, memOf, put}
+use Rattle.job.specs.Steps.{InRange}
 use Rattle.job.proofs.Parts.{use-range}
 use Rattle.job.proofs.store.store.Statement.{statement}
 use Rattle.job.proofs.store.store.Tie as tie

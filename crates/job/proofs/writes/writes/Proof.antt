@@ -9,8 +9,8 @@ use lib.ListN.{length}
 use Rattle.pictures.specs.Shapes.{natOf}
 use Rattle.job.specs.Memory.{Mem, memOf}
 use Rattle.job.specs.Job.{pixelCount, phaseAt, pixelAt, endOf}
-use Rattle.job.specs.Uses.{batchBy}
-use Rattle.job.specs.Steps.{Batch, Midway, Part, Ran}
+use Rattle.job.specs.Uses.{Batch, Midway}
+use Rattle.job.specs.Steps.{batchBy, Part, Ran}
 use Rattle.job.proofs.Checked.{Bounded, bounded, phase-within, pixel-within}
 use Rattle.job.proofs.Parts.{ran-none, ran-on, ran-as, ran-midway, ran-lengths, buffered}
 use Rattle.job.proofs.writes.writes.Statement.{statement}

@@ -6,7 +6,8 @@ use native.Mathlib.Omega.{arith}
 use borrow.Author.Needs.{needs}
 use lib.ListN.{length}
 use Rattle.pictures.specs.Widen.{rgbaAt}
-use Rattle.pictures.specs.FlatWords.{flat, filled, putOf}
+use Rattle.pictures.specs.FlatWords.{flat}
+use Rattle.pictures.specs.Steps.{filled, putOf}
 use Rattle.pictures.proofs.FlatWords.{filled-more}
 use Rattle.pictures.proofs.Inside.{words-within, pixels-words}
 use Rattle.pictures.proofs.flat.widen.Statement.{statement}
