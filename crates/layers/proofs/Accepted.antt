@@ -135,14 +135,6 @@ accepted i e =
 
 -- ---- what the crates above ask of accepted inputs
 
-module _ (i : Inputs) (a : Accepted i) (k : ℕ) (h : k < natOf (i .count)) where
-  -- row k lies in the table and in the arguments
-  pub row-held : k * columns + columns ≤ length (i .table)
-  row-held = omega (arith, a .table)
-
-  pub words-held : k * argWords + argWords ≤ length (i .args)
-  words-held = omega (arith, a .args)
-
 -- a good layer on a destination whose sides are in bounds can be placed
 pub measured : (dw dh samples : ℕ) (l : Layer) → dw ≤ slack → dh ≤ slack → GoodLayer samples l → Measured dw dh (l .source .width) (l .source .height) (l .right) (l .down)
 measured dw dh samples l wide high g = record {
