@@ -11,7 +11,7 @@ import text
 
 # The items of each file but for its imports.
 ITEMS = {
-    "crates/job/src/lib.rt": "pub mod call; mod writes; mod fill; mod pixel; mod store; enum Write; struct Extent; pub struct Answer",
+    "crates/job/src/lib.rt": "pub mod call; mod writes; mod fill; mod pixel; mod store; enum Write; struct Extent; struct Part; pub struct Answer",
     "crates/job/src/call.rt": "fn memory_fault; fn fault; fn acceptance; fn accepted; pub fn run",
     "crates/job/src/writes.rt": "const WRITES; pub fn writes",
     "crates/job/src/fill.rt": "pub fn fill",
@@ -61,7 +61,7 @@ INPUTS = {"dst": "& [ u32 ]", "table": "& [ i64 ]", "args": "& [ u32 ]", "sample
 TYPES = INPUTS | {"extent": "Extent", "uses": "& mut u64", "out": "& mut [ u32 ]"}
 NUMBERS = ("shape", "count", "allowance")
 # The arguments that have not their parameter's name, by function and parameter.
-GIVEN = {"run count": "layers", "writes uses": "& mut uses", "acceptance stores": "uses", "fill count": "( n + 4 ) / 5", "fill out": "& mut buf"}
+GIVEN = {"run count": "layers", "writes uses": "& mut uses", "acceptance stores": "uses", "fill out": "& mut buf"}
 # How a body reads a list, the extent and the count. The functions of other crates that write do so into the last argument; READS_LAST reads it.
 READS = re.compile(r"(?:work0|work1|checkpoint) (?:\[|\. len \( \)) |extent \. |(?<=\* )uses ")
 READS_LAST = "check"

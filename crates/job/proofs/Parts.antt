@@ -13,7 +13,6 @@ use Rattle.layers.specs.declared.Layer.{Layer}
 use Rattle.pictures.specs.Shapes.{natOf}
 use Rattle.layers.specs.Inputs.{Inputs}
 use Rattle.layers.specs.Layers.{layerAt}
-use Rattle.pictures.specs.declared.Words.{Words}
 use Rattle.pictures.specs.Widen.{rgbaAt}
 use Rattle.pictures.specs.Steps.{filled}
 use Rattle.pictures.proofs.FlatWords.{flat-pixel}
@@ -21,13 +20,14 @@ use Rattle.compose.specs.declared.Plan.{Plan}
 use Rattle.compose.specs.Compose.{sourceOf}
 use Rattle.compose.specs.Plans.{planOf, pixelOn}
 use Rattle.compose.specs.Ready.{Planned, Span}
+use Rattle.job.specs.declared.Part.{Part}
 use Rattle.job.specs.declared.Write.{Write}
 use Rattle.job.specs.Memory.{Mem, put, writeOf, positionOf, memOf, workIn}
-use Rattle.job.specs.Steps.{InRange, Part, Ran, Buffered}
+use Rattle.job.specs.Steps.{NextPart, Ran, pixelsOf, Buffered}
 use Rattle.job.specs.Job.{pixelCount}
 use Rattle.job.specs.Call.{phasePixel, runOf}
 use Rattle.job.specs.Uses.{NextUse, Batch, Midway}
-use Rattle.job.proofs.Runs.{write-range, write-is, run-split, run-midway, run-under, under-pixel}
+use Rattle.job.proofs.Runs.{InRange, write-range, write-is, run-split, run-midway, run-under, under-pixel}
 
 module _ {b : Batch} where
   -- ---- writes after writes
@@ -55,31 +55,37 @@ module _ {b : Batch} where
     ran-lengths h = let v = ran-midway h in omega arith
 
     -- the phase's pixels are the same
-    part-pixel : {k j n : ℕ} → Part b u k j n m → x ≤ n → (y : ℕ) → phasePixel (b .inputs) m′ k y ≡ phasePixel (b .inputs) m k y
-    part-pixel {k} {j} q h y =
-        rw (f .memory) (under-pixel (b .inputs) k _ m y (run-under (b .inputs) (5 * b .start + u) x k j m (omega arith) (omega arith)))
+    part-pixel : {p : Part} → NextPart b u p m → x ≤ p .n → (y : ℕ) → phasePixel (b .inputs) m′ (p .k) y ≡ phasePixel (b .inputs) m (p .k) y
+    part-pixel {p} q h y =
+        rw (f .memory) (under-pixel (b .inputs) (p .k) _ m y (run-under (b .inputs) (5 * b .start + u) x (p .k) (p .from) m (omega arith) (omega arith)))
 
     -- out of a buffer, after the pixels before pixel y: its first c writes
-    pub pixel-asks : {k from n : ℕ} {buf : List ℕ} (y c : ℕ) → Part b u k from n m → Buffered b k from n m buf → x ≡ 5 * y → x + c ≤ n → c ≤ 5
-        → Part b u′ k (from + y) c m′ × Buffered b k from (5 * y + c) m′ buf × (c ≤ 5)
-    pixel-asks {from = from} y c q w e l few =
-        let v = ran-midway (q .midway) in
-        (omega arith, record { room = omega arith; pixel = λ z o. w .pixel z (omega arith) ∙ sym (part-pixel q (omega arith) (from + z)) }, few)
+    pub pixel-asks : {p : Part} {buf : List ℕ} (y c : ℕ) → NextPart b u p m → Buffered b p m 0 buf → x ≡ 5 * y → x + c ≤ p .n → c ≤ 5
+        → let p′ : Part = record { k = p .k; from = p .from + y; n = c } in NextPart b u′ p′ m′ × Buffered b p′ m′ y buf × (c ≤ 5)
+    pixel-asks {p} y c q w e l few =
+        let v = ran-midway (q .midway) in (
+          omega arith,
+          record {
+            room = omega arith;
+            pixel = λ z o. rw add-assoc (rw zero-add at (w .pixel (y + z) (omega arith)) ∙ sym (part-pixel q (omega arith) (p .from + (y + z))));
+          },
+          few,
+        )
 
   -- ---- one write
 
   -- after c writes of a pixel, write c of its five is the next
-  pub use-next : {u₀ u k j n c : ℕ} {m₀ m : Mem} {words : Words} {w : Write}
-      → Part b u₀ k j n m₀ → n ≤ 5 → c < n → Ran b u₀ c u m₀ m → words ≡ phasePixel (b .inputs) m₀ k j → w ≡ writeOf k j words (positionOf m + 1) c
-      → NextUse b u m w
-  use-next {u = u} {k = k} {j = j} {c = c} {m = m} q few l f ew e =
+  pub use-next : {u₀ u x c : ℕ} {p : Part} {m₀ m : Mem} {buf : List ℕ} {w : Write} → NextPart b u₀ p m₀ → Buffered b p m₀ x buf → p .n ≤ 5
+      → c < p .n → Ran b u₀ c u m₀ m → w ≡ writeOf (p .k) (p .from) (rgbaAt buf 4 x) (positionOf m + 1) c → NextUse b u m w
+  use-next {u = u} {c = c} {p = p} {m = m} q y few l f e =
       let t = 5 * b .start + u in
       let v = ran-midway f (q .midway) in
-      let at : t / 5 ≡ k * pixelCount (b .inputs) + j = omega arith in
+      let at : t / 5 ≡ p .k * pixelCount (b .inputs) + p .from = omega arith in
       let raised : positionOf m ≡ t / 5 = omega arith in
       let number : c ≡ t % 5 = omega arith in
-      let same = part-pixel f q (omega arith) j in
-      record { midway = v; left = omega arith; next = cc (write-is (b .inputs) m t k j at (omega arith)) }
+      let same = part-pixel f q (omega arith) (p .from) in
+      let words = rw (add-zero, add-zero) at (y .pixel 0 (omega arith)) in
+      record { midway = v; left = omega arith; next = cc (write-is (b .inputs) m t (p .k) (p .from) at (omega arith)) }
 
   -- the number that it changes is there
   pub use-range : {u : ℕ} {m : Mem} {w : Write} → NextUse b u m w → InRange m w
@@ -116,13 +122,14 @@ pub plan-span : (l : Layer) {dw dh : ℕ} {p : Plan} {words from n : ℕ} → p 
 unfolding planOf
 plan-span l e w h k i = rw e (omega arith)
 
--- the pixels of n writes, in a buffer that was filled with them
-pub buffered : {b : Batch} {k from n : ℕ} {buf : List ℕ} (m : Mem) (out : List ℕ) → 4 * ((n + 4) / 5) ≤ length buf
-    → buf ≡ filled (λ x. phasePixel (b .inputs) (memOf (m .work0) (m .work1) []) k (from + x)) ((n + 4) / 5) out → Buffered b k from n m buf
-buffered {b} {k} {from} {n} m out h e = record {
-  room = h;
+-- the pixels of a part, in a buffer that was filled with them
+pub buffered : {b : Batch} {p : Part} {buf : List ℕ} (m : Mem) (out : List ℕ) → 4 * pixelsOf p ≤ length buf
+    → buf ≡ filled (λ x. phasePixel (b .inputs) (memOf (m .work0) (m .work1) []) (p .k) (p .from + x)) (pixelsOf p) out → Buffered b p m 0 buf
+buffered {b} {p} m out h e = record {
+  room = omega arith;
   pixel = λ x l.
-      ap (λ (xs : List ℕ). rgbaAt xs 4 x) e
-      ∙ flat-pixel _ 0 ((n + 4) / 5) _ x (omega arith)
-      ∙ rw zero-add (under-pixel (b .inputs) k _ m (from + x) (λ y f. refl));
+      rw zero-add
+      (ap (λ (xs : List ℕ). rgbaAt xs 4 x) e
+      ∙ flat-pixel _ 0 (pixelsOf p) _ x (omega arith)
+      ∙ rw zero-add (under-pixel (b .inputs) (p .k) _ m (p .from + x) (λ y f. refl)));
 }

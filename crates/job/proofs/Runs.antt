@@ -16,13 +16,18 @@ use Rattle.pictures.specs.Widen.{rgbaAt}
 use Rattle.job.specs.declared.Write.{Write}
 use Rattle.job.specs.declared.Write.the-variants.{Work0, Work1, Checkpoint}
 use Rattle.job.specs.Memory.{Mem, put, stored, workOf, wordWrite, writeOf, positionOf}
-use Rattle.job.specs.Steps.{InRange}
 use Rattle.job.specs.Job.{pixelCount, phaseAt, pixelAt, endOf}
 use Rattle.job.specs.Call.{phasePixel, writeAt, runOf}
 use Rattle.job.specs.Uses.{Sized, Batch, Midway}
 use Rattle.job.proofs.Checked.{pixel-within}
 
 -- ---- any write
+
+-- the number that it names is there
+abbrev pub InRange : Mem → Write → Type 0
+InRange m (Work0 at word) = at < length (m .work0)
+InRange m (Work1 at word) = at < length (m .work1)
+InRange m (Checkpoint position) = 0 < length (m .checkpoint)
 
 -- the lists keep their lengths
 put-sized : {i : Inputs} (w : Write) (m : Mem) → Sized i m → Sized i (put w m)

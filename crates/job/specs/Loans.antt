@@ -1,5 +1,5 @@
 -- What a refused call is lent for its work buffers and its checkpoint, "with whatever arguments" (document 01): for each of the three any slice of the
--- job's own lists of that type, or a list that is not the job's; and what the job's memory is after it. Definitions only; proofs/Loans has the law.
+-- job's own lists of that type, or another list, by its numbers; and what the job's memory is after it. Definitions only; proofs/Loans has the law.
 use mathlib.Core.List.{List, _++_}
 use Prim.Native.Nat.{ℕ}
 use lib.ListN.{take, drop}

@@ -2,9 +2,9 @@
 -- mark), a list with the job's position at index 0. One write (document 01: a store) changes one number. Definitions only.
 use mathlib.Core.Bool.{cond}
 use mathlib.Core.List.{List, [], _∷_}
-use Prim.Native.Nat.{ℕ, _+_, _*_, _%_, _<_}
+use Prim.Native.Nat.{ℕ, _+_, _*_, _%_}
 use lib.Dec.{eqb}
-use lib.ListN.{length, getD, set}
+use lib.ListN.{getD, set}
 use Rattle.lent.specs.Lent.{Lent, before, after}
 use Rattle.pictures.specs.declared.Words.{Words}
 use Rattle.job.specs.declared.Write.{Write}

@@ -2,7 +2,6 @@
 ghost use mathlib.Core.Path.{_≡_};
 ghost use Prim.Native.Nat.{_+_, _*_, _≤_};
 ghost use lib.Dec.{eqb};
-ghost use Rattle.lent.specs.Lent.{before, after};
 ghost use Rattle.faults.specs.Faults.{NONE};
 ghost use Rattle.layers.specs.Inputs.{inputsOf, inputs};
 ghost use Rattle.job.specs.Memory.{found, left};

@@ -24,6 +24,13 @@ struct Extent {
     pub due: usize,
 }
 
+// A part of its writes: the first n of picture k's from pixel `from` on, so that its last pixel may lack some.
+struct Part {
+    pub k: usize,
+    pub from: usize,
+    pub n: usize,
+}
+
 // What a call answers: the number of its first fault and that fault's layer, or 0 and 0; the writes that it made; whether the job is finished.
 pub struct Answer {
     pub number: u64,

@@ -5,8 +5,9 @@ ghost use lib.ListN.{length};
 ghost use Rattle.lent.specs.Lent.{before, after};
 ghost use Rattle.pictures.specs.Widen.{rgbaAt};
 ghost use Rattle.job.specs.Memory.{found, left, writeOf};
-ghost use Rattle.job.specs.Steps.{held, heldBatch, lentBatch, mostPosition, Part, Buffered, Ran};
+ghost use Rattle.job.specs.Steps.{held, heldBatch, lentBatch, mostPosition, NextPart, Buffered, Ran};
 use crate::Extent;
+use crate::Part;
 use crate::Write;
 use crate::store::store;
 
@@ -28,8 +29,8 @@ fn write_of(k: usize, j: usize, buf: &[u32], x: usize, c: usize, position: u64) 
     Write::Work1 { at, word }
 }
 
-// The first n writes of pixel x of the buffer, which is pixel from + x of picture k. The position is read from the checkpoint before each write, so also
-// after alpha's: that keeps the compiled writes in their order.
+// A part of one pixel, whose words are pixel x of the buffer. The position is read from the checkpoint before each write, so also after alpha's: that
+// keeps the compiled writes in their order.
 fn pixel(
     extent: Extent,
     dst: &[u32],
@@ -40,23 +41,21 @@ fn pixel(
     work1: &mut [u32],
     checkpoint: &mut [u64],
     uses: &mut u64,
-    k: usize,
-    from: usize,
+    part: Part,
     x: usize,
-    n: usize,
     buf: &[u32],
 )
     requires { ⌜
         (let batch = heldBatch extent dst table args samples in let mem = held work0 work1 checkpoint in
-        (Part batch (now uses) k (from + x) n mem) × (Buffered batch k from (5 * x + n) mem (now buf)) × (n ≤ 5))
+        (NextPart batch (now uses) part mem) × (Buffered batch part mem x (now buf)) × (part .n ≤ 5))
         ⌝ }
     ensures { λ _. ⌜
-        Ran (lentBatch extent dst table args samples) (before uses) n (after uses) (found work0 work1 checkpoint) (left work0 work1 checkpoint)
+        Ran (lentBatch extent dst table args samples) (before uses) (part .n) (after uses) (found work0 work1 checkpoint) (left work0 work1 checkpoint)
         ⌝ }
 {
     let mut c = 0;
-    while c < n {
-        let write = write_of(k, from + x, buf, x, c, checkpoint[0]);
+    while c < part.n {
+        let write = write_of(part.k, part.from, buf, x, c, checkpoint[0]);
         store(
             extent,
             dst,
@@ -73,7 +72,7 @@ fn pixel(
     }
 }
 
-// The next n writes, those of picture k from pixel `from` on, out of the buffer: whole pixels, and the first writes of one more.
+// A part, out of the buffer that begins with its pixels: whole pixels, then the first writes of one more.
 pub fn write_out(
     extent: Extent,
     dst: &[u32],
@@ -84,21 +83,25 @@ pub fn write_out(
     work1: &mut [u32],
     checkpoint: &mut [u64],
     uses: &mut u64,
-    k: usize,
-    from: usize,
-    n: usize,
+    part: Part,
     buf: &[u32],
 )
     requires { ⌜
         (let batch = heldBatch extent dst table args samples in let mem = held work0 work1 checkpoint in
-        (Part batch (now uses) k from n mem) × (Buffered batch k from n mem (now buf)))
+        (NextPart batch (now uses) part mem) × (Buffered batch part mem 0 (now buf)))
         ⌝ }
     ensures { λ _. ⌜
-        Ran (lentBatch extent dst table args samples) (before uses) n (after uses) (found work0 work1 checkpoint) (left work0 work1 checkpoint)
+        Ran (lentBatch extent dst table args samples) (before uses) (part .n) (after uses) (found work0 work1 checkpoint) (left work0 work1 checkpoint)
         ⌝ }
 {
+    let full = part.n / 5;
     let mut x = 0;
-    while x < n / 5 {
+    while x < full {
+        let whole = Part {
+            k: part.k,
+            from: part.from + x,
+            n: 5,
+        };
         pixel(
             extent,
             dst,
@@ -109,14 +112,17 @@ pub fn write_out(
             work1,
             checkpoint,
             uses,
-            k,
-            from,
+            whole,
             x,
-            5,
             buf,
         );
         x += 1;
     }
+    let last = Part {
+        k: part.k,
+        from: part.from + full,
+        n: part.n % 5,
+    };
     pixel(
         extent,
         dst,
@@ -127,10 +133,8 @@ pub fn write_out(
         work1,
         checkpoint,
         uses,
-        k,
-        from,
-        n / 5,
-        n % 5,
+        last,
+        full,
         buf,
     );
 }

@@ -5,6 +5,7 @@ ghost use Rattle.job.specs.Memory.{found, left};
 ghost use Rattle.job.specs.Steps.{held, heldBatch, lentBatch, Ran};
 ghost use Rattle.job.specs.Uses.{Midway};
 use crate::Extent;
+use crate::Part;
 use crate::fill::fill;
 use crate::pixel::write_out;
 use compose::run::SPAN;
@@ -35,9 +36,12 @@ pub fn writes(
     while (*uses as usize) < extent.due {
         let done = *uses as usize;
         let at = extent.start + done / 5;
-        let k = at / pixels;
         let from = at % pixels;
-        let n = min(WRITES, min(extent.due - done, 5 * (pixels - from)));
+        let part = Part {
+            k: at / pixels,
+            from,
+            n: min(WRITES, min(extent.due - done, 5 * (pixels - from))),
+        };
         fill(
             extent,
             dst,
@@ -46,9 +50,7 @@ pub fn writes(
             samples,
             work0,
             work1,
-            k,
-            from,
-            (n + 4) / 5,
+            part,
             &mut buf,
         );
         write_out(
@@ -61,9 +63,7 @@ pub fn writes(
             work1,
             checkpoint,
             uses,
-            k,
-            from,
-            n,
+            part,
             &buf,
         );
     }

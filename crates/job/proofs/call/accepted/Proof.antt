@@ -11,6 +11,8 @@ use Rattle.job.specs.Memory.{Mem, memOf, positionOf}
 use Rattle.job.specs.Job.{endOf, acceptance}
 use Rattle.job.specs.Call.{madeOf, outcome}
 use Rattle.job.specs.Uses.{Batch, batchOf, Midway}
+use Rattle.job.specs.Steps.{batchBy}
+use Rattle.job.specs.declared.Extent.{Extent}
 use Rattle.job.proofs.Checked.{end-is, Bounded, bounded, call-inputs, call-midway, batch-is, call-accepted}
 use Rattle.job.proofs.call.accepted.Statement.{statement}
 use Rattle.job.proofs.call.accepted.Tie as tie
@@ -26,8 +28,11 @@ counted c = c .before .before .before
 abbrev begun : tie.After-min → tie.Start
 begun c = start (counted c)
 
+abbrev asked : tie.After-uses → tie.After-min
+asked c = c .before .before .before .before
+
 abbrev written : tie.After-writes → tie.After-min
-written c = c .before .before .before .before .before
+written c = asked (c .before)
 
 abbrev read : tie.After-slice-known8 → tie.After-writes
 read c = c .before .before .before .before .before .before .before
@@ -80,15 +85,30 @@ deep c = c .before .channels-of .ensures
 made : (c : tie.After-min) → let s = begun c in c .min .result ≡ madeOf (inputs s) (s .args .allowance) (memory s)
 made c = rw (← end (counted c)) (c .min .ensures)
 
+-- the call's writes, by its extent
+abbrev extent : tie.After-min → Extent
+extent c =
+    let n = counted c in
+    record {
+      width = n .before .before .width-of .result;
+      height = n .before .height-of .result;
+      channels = c .before .channels-of .result;
+      layers = n .natural .result;
+      start = positionOf (memory (begun c));
+      due = c .min .result;
+    }
+
+batch : (c : tie.After-min) → let s = begun c in let i = inputs s in
+    batchBy (extent c) (i .dst) (i .table) (i .args) (i .samples) ≡ batchOf i (s .args .allowance) (memory s)
+batch c =
+    let n = counted c in
+    let s = begun c in
+    batch-is (inputs s) (s .args .allowance) (memory s) (fit s) (extent c) (wide n) (high n) (deep c) (many n) refl (made c)
+
 -- ---- the needs
 
 writes-requires : tie.Need-writes-requires
-writes-requires c κs =
-    let d = c .before .before .before .before in
-    let n = counted d in
-    let a = begun d in
-    let same = batch-is (inputs a) (a .args .allowance) (memory a) (fit a) _ (wide n) (high n) (deep d) (many n) refl (made d) in
-    (refl, subst⁻¹ (λ (b : Batch). Midway b 0 (memory a)) same (found a _))
+writes-requires c κs = let s = begun (asked c) in (refl, subst⁻¹ (λ (b : Batch). Midway b 0 (memory s)) (batch (asked c)) (found s _))
 
 -- the answer: the writes that were made, and whether the position is the end
 answered : (c : tie.After-acceptance) → let w = ended c in c .acceptance .result ≡ acceptance (uses w) (eqb (positionOf (left w)) (endOf (inputs (begun (written w)))))
@@ -97,11 +117,7 @@ answered c = rw (← end (counted (written (ended c)))) (c .acceptance .ensures)
 returns : tie.Need-returns
 returns c =
     let w = ended c in
-    let d = written w in
-    let n = counted d in
-    let a = begun d in
-    let same = batch-is (inputs a) (a .args .allowance) (memory a) (fit a) _ (wide n) (high n) (deep d) (many n) refl (made d) in
-    ap (outcome (left w)) (answered c) ∙ call-accepted _ _ _ same (w .writes .ensures)
+    ap (outcome (left w)) (answered c) ∙ call-accepted _ _ _ (batch (written w)) (w .writes .ensures)
 
 pub accepted-spec : {M : Type 1} → statement M
 accepted-spec =

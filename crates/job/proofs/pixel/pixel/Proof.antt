@@ -1,6 +1,6 @@
 -- `job::pixel::pixel` meets its contract.
 -- The invariant: c of the writes have been made. The measure is what is left of them. Assumes nothing.
-use Prim.Native.Nat.{_+_, _-_, _*_, _<_, _≤_}
+use Prim.Native.Nat.{_-_, _*_, _<_, _≤_}
 use mathlib.Core.Path.{refl}
 use native.Mathlib.Omega.{arith}
 use Rattle.job.specs.Memory.{Mem, memOf, positionOf}
@@ -12,19 +12,25 @@ use Rattle.job.proofs.pixel.pixel.Statement.{statement}
 use Rattle.job.proofs.pixel.pixel.Tie as tie
 
 abbrev Inv-loop : tie.InvT-loop
-Inv-loop extent dst table args samples work0₀ work1₀ checkpoint₀ uses₀ k from x n buf c₀ work0 work1 checkpoint uses c =
-    (c ≤ n) × Ran (batchBy extent dst table args samples) uses₀ c uses (memOf work0₀ work1₀ checkpoint₀) (memOf work0 work1 checkpoint)
+Inv-loop extent dst table args samples work0₀ work1₀ checkpoint₀ uses₀ part x buf c₀ work0 work1 checkpoint uses c =
+    (c ≤ part .n) × Ran (batchBy extent dst table args samples) uses₀ c uses (memOf work0₀ work1₀ checkpoint₀) (memOf work0 work1 checkpoint)
 
 abbrev μ-loop : tie.MeasureT-loop
-μ-loop extent dst table args samples work0₀ work1₀ checkpoint₀ uses₀ k from x n buf c₀ work0 work1 checkpoint uses c = n - c
+μ-loop extent dst table args samples work0₀ work1₀ checkpoint₀ uses₀ part x buf c₀ work0 work1 checkpoint uses c = part .n - c
 
 -- ---- places of the code
 
 abbrev start : tie.At-loop Inv-loop μ-loop → tie.Start Inv-loop μ-loop
 start l = l .before .before .before .before .before .before .before .before
 
+abbrev test : tie.After-slice-known4 Inv-loop μ-loop → tie.Then1 Inv-loop μ-loop
+test c = c .before
+
+abbrev at-loop : tie.After-slice-known4 Inv-loop μ-loop → tie.At-loop Inv-loop μ-loop
+at-loop c = test c .before .before
+
 abbrev pass : tie.After-write-of Inv-loop μ-loop → tie.At-loop Inv-loop μ-loop
-pass c = c .before .before .before
+pass c = at-loop (c .before)
 
 abbrev written : tie.After-store-arg4 Inv-loop μ-loop → tie.After-write-of Inv-loop μ-loop
 written c = c .before .before .before .before
@@ -47,23 +53,23 @@ module _ (l : tie.At-loop Inv-loop μ-loop) where
 -- ---- the needs
 
 -- the pixel is before the picture's end, and the position before the job's
-small : (c : tie.In-loop Inv-loop μ-loop)
-    → let s = start (c .before) .args in (4 * (s .from + s .x) < mostPosition) × (positionOf (found (c .before)) < mostPosition)
-small c = let v = midway (c .before) in let b = bounded _ (v .fit) refl refl refl in omega arith
+small : (l : tie.At-loop Inv-loop μ-loop) → (l .loop .c < start l .args .part .n)
+    → (4 * start l .args .part .from < mostPosition) × (positionOf (found l) < mostPosition)
+small l h = let v = midway l in let b = bounded _ (v .fit) refl refl refl in omega arith
 
 write-of-requires : tie.Need-write-of-requires Inv-loop μ-loop
 write-of-requires c κs =
-    let l = c .before in
-    let s = start (l .before) in
-    let b = small l in
-    (omega (arith, s .pre .2, l .loop-test), λ h. omega (arith, s .pre .1 .room, l .loop-test), b .0, b .1)
+    let s = start (at-loop c) in
+    let l = test c .if1 .taken in
+    let b = small (at-loop c) l in
+    (omega (arith, s .pre .2, l), λ h. omega (arith, s .pre .1 .room, l), b .0, b .1)
 
 -- the call's next write
 next : (c : tie.After-write-of Inv-loop μ-loop) → let l = pass c in NextUse (batch l) (l .loop .uses) (found l) (c .write-of .result)
 next c =
     let l = pass c in
     let s = start l in
-    use-next (s .pre .0) (s .pre .2) (c .before .before .loop-test .taken) (l .loop .inv .1) (s .pre .1 .pixel (s .args .x) (omega arith)) (c .write-of .ensures)
+    use-next (s .pre .0) (s .pre .1) (s .pre .2) (test (c .before) .if1 .taken) (l .loop .inv .1) (c .write-of .ensures)
 
 loop-again : tie.Need-loop-again Inv-loop μ-loop
 loop-again c =
@@ -71,7 +77,7 @@ loop-again c =
     (omega arith, ran-on refl (pass w .loop .inv .1) (use-ran (next w) (used c .store .ensures)))
 
 returns : tie.Need-returns Inv-loop μ-loop
-returns c = let v = c .before .loop .inv in ran-as (omega arith) (v .1)
+returns c = let v = c .before .before .loop .inv in ran-as (omega arith) (v .1)
 
 pub pixel-spec : {M : Type 1} → statement M
 pixel-spec =
@@ -80,14 +86,13 @@ pixel-spec =
     Inv-loop
     μ-loop
     (λ c. (omega arith, ran-none))
-    (λ c. omega (arith, small c .0))
-    (λ c. omega (arith, midway (c .before .before) .sized .checkpoint))
+    (λ c. omega (arith, midway (at-loop c) .sized .checkpoint))
     write-of-requires
     (λ c κs. next (written c))
     (λ c. omega arith)
     (λ c. omega arith)
     loop-again
-    (λ c. ran-lengths (returns c) (start (c .before) .pre .0 .midway) .0)
-    (λ c. ran-lengths (returns c) (start (c .before) .pre .0 .midway) .1)
-    (λ c. ran-lengths (returns c) (start (c .before) .pre .0 .midway) .2)
+    (λ c. ran-lengths (returns c) (start (c .before .before) .pre .0 .midway) .0)
+    (λ c. ran-lengths (returns c) (start (c .before .before) .pre .0 .midway) .1)
+    (λ c. ran-lengths (returns c) (start (c .before .before) .pre .0 .midway) .2)
     returns)

@@ -10,7 +10,7 @@ use Rattle.pictures.specs.Shapes.{natOf}
 use Rattle.job.specs.Memory.{Mem, memOf}
 use Rattle.job.specs.Job.{pixelCount, phaseAt, pixelAt, endOf}
 use Rattle.job.specs.Uses.{Batch, Midway}
-use Rattle.job.specs.Steps.{batchBy, Part, Ran}
+use Rattle.job.specs.Steps.{batchBy, NextPart, Ran}
 use Rattle.job.proofs.Checked.{Bounded, bounded, phase-within, pixel-within}
 use Rattle.job.proofs.Parts.{ran-none, ran-on, ran-as, ran-midway, ran-lengths, buffered}
 use Rattle.job.proofs.writes.writes.Statement.{statement}
@@ -84,7 +84,7 @@ module _ (c : tie.Then1 Inv-loop μ-loop) where
 
 -- the span that is next: after whole pixels, writes that are due and lie in the picture at the position
 next : (c : tie.After-min2 Inv-loop μ-loop) → let t = counted c in let i = batch t .inputs in
-    Part (batch t) (l t .loop .uses) (phaseAt i (position t)) (pixelAt i (position t)) (c .min2 .result) (found t)
+    NextPart (batch t) (l t .loop .uses) (record { k = phaseAt i (position t); from = pixelAt i (position t); n = c .min2 .result }) (found t)
 unfolding natOf
 next c =
     let t = counted c in
@@ -133,7 +133,6 @@ writes-spec =
     (λ c. omega (arith, bounds (split c) .pixels))
     (λ c κs. tt)
     (λ c κs. tt)
-    (λ c. omega arith)
     (λ c. omega arith)
     (λ c κs. let q = next (asked c) in let t = counted (asked c) in omega (arith, phase-within (batch t .inputs) (position t) (room t)))
     kept
