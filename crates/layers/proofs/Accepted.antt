@@ -11,7 +11,7 @@ use lib.ListN.{length}
 use lib.Signed.{ltZ, mag}
 use borrow.Author.Tests.{eqb-true, eqb-false, ltb-false, not-false}
 use Rattle.pictures.specs.declared.Shape.{Shape}
-use Rattle.pictures.specs.Shapes.{natOf, outsideZ, mostSide, badShape, sampleCount}
+use Rattle.pictures.specs.Shapes.{natOf, outsideZ, mostSide, sampleCount}
 use Rattle.pictures.proofs.Ranges.{both-fail, all-fail, Ranged, ranged, channels-least, channels-most, Shaped, shaped}
 use Rattle.places.specs.Bounds.{slack, Measured}
 use Rattle.places.specs.Gravities.{lastGravity}

@@ -4,7 +4,10 @@ use Rattle.blends.proofs.conversions.rgb_to_hsl.Statement.{statement}
 use Rattle.blends.proofs.conversions.rgb_to_hsl.Tie as tie
 
 returns : tie.Need-returns
-returns c = rw (c .hsl-by .ensures, c .before .smaller2 .ensures, c .before .before .smaller .ensures, c .before .before .before .larger2 .ensures, c .before .before .before .before .larger .ensures)
+returns c =
+    let min = c .before in
+    let max = min .before .before in
+    rw (c .hsl-by .ensures, min .smaller2 .ensures, min .before .smaller .ensures, max .larger2 .ensures, max .before .larger .ensures)
 
 pub rgb-to-hsl-spec : {M : Type 1} → statement M
 rgb-to-hsl-spec =

@@ -1,10 +1,18 @@
 -- `compose::arguments::raw` meets its contract. Assumes nothing.
+use Rattle.float_steps.proofs.Choice.{no}
 use borrow.Author.Tests.{lt-ltb, le-ltb}
 use Rattle.compose.specs.Arguments.{rawBy}
 use borrow.Author.Needs.{needs}
 use Rattle.compose.proofs.arguments.raw.Statement.{statement}
 use Rattle.compose.proofs.arguments.raw.Tie as tie
 
-pub raw-spec : {M : Type 1} → statement M
+returns : tie.Need-returns
 unfolding rawBy
-raw-spec = tie.close (tie.spec (λ c κs. search needs) (λ c. cc (lt-ltb _ _ (c .before .if1 .taken))) (λ c. cc (le-ltb _ _ (c .if1 .left))))
+returns c = rw (lt-ltb _ _ (c .before .if1 .taken)) (search needs)
+
+returns-2 : tie.Need-returns-2
+unfolding rawBy
+returns-2 c = no _ _ (le-ltb _ _ (c .if1 .left))
+
+pub raw-spec : {M : Type 1} → statement M
+raw-spec = tie.close (tie.spec (λ c κs. search needs) returns returns-2)

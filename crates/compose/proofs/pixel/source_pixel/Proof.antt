@@ -7,9 +7,10 @@ use Rattle.compose.proofs.pixel.source_pixel.Tie as tie
 
 rgba-at-requires : tie.Need-rgba-at-requires
 rgba-at-requires c κs =
-    let s = c .before .before .before .before in
+    let found = c .before in
+    let s = found .before .before .before in
     let r = s .pre .0 in
-    (r .some, r .most, rw (r .whole) (words-inside _ _ _ (rw (c .before .index .given .1) at (s .pre .1))))
+    (r .some, r .most, rw (r .whole) (words-inside _ _ _ (rw (found .index .given .1) at (s .pre .1))))
 
 pub source-pixel-spec : {M : Type 1} → statement M
 unfolding sourcePixel

@@ -10,13 +10,16 @@ use Rattle.compose.proofs.plans.plan.Tie as tie
 returns : tie.Need-returns
 unfolding planOf
 returns c =
-    let s = c .before .before .before .before .before .before .before .before in
+    let placed = c .before in
+    let told = placed .before .before .before in
+    let counted = told .before .before in
+    let s = counted .before .before in
     planned (s .args .l) (s .args .dw) (s .args .dh) (s .pre .0) _ (s .pre .1) (s .pre .2) (
     rw (
-      c .before .placement .ensures,
-      c .before .before .before .before .displaces .ensures,
-      c .before .before .before .before .before .reads-through .ensures,
-      c .before .before .before .before .before .before .params .ensures,
+      placed .placement .ensures,
+      told .displaces .ensures,
+      told .before .reads-through .ensures,
+      counted .params .ensures,
       back {z = s .args .l .right} (omega (arith, s .pre .0 .offset-right)),
       back {z = s .args .l .down} (omega (arith, s .pre .0 .offset-down)),
     )

@@ -29,8 +29,11 @@ abbrev μ-loop : tie.MeasureT-loop
 
 -- ---- places of the code
 
+abbrev begun : tie.Else1 Inv-loop μ-loop → tie.Start Inv-loop μ-loop
+begun c = c .before .before .before .before .before
+
 abbrev start : tie.At-loop Inv-loop μ-loop → tie.Start Inv-loop μ-loop
-start c = c .before .before .before .before .before .before
+start c = begun (c .before)
 
 abbrev pass : tie.After-composed Inv-loop μ-loop → tie.In-loop Inv-loop μ-loop
 pass c = c .before .before .before
@@ -41,8 +44,8 @@ written c = c .before .before
 -- ---- the needs
 
 -- a run that has a pixel has columns
-wide : (c : tie.Else1 Inv-loop μ-loop) → 1 ≤ c .before .before .before .before .before .args .p .dw
-wide c = omega (arith, at-run 0 (c .before .before .before .before .before .pre .1) (omega arith) refl refl .column)
+wide : (c : tie.Else1 Inv-loop μ-loop) → 1 ≤ begun c .args .p .dw
+wide c = omega (arith, at-run 0 (begun c .pre .1) (omega arith) refl refl .column)
 
 loop-holds : tie.Need-loop-holds Inv-loop μ-loop
 unfolding flat

@@ -15,9 +15,12 @@ part first n l h =
     let e : first + n - first ≡ n = omega arith in
     rw e (refl, length-take-le n (drop first l) (rw length-drop (omega arith)))
 
+abbrev start : tie.After-result → tie.Start
+start c = c .before .before .before .before
+
 returns : tie.Need-returns
 returns c =
-    let s = c .before .before .before .before in
+    let s = start c in
     let q = s .args .l .source in
     part (q .first) (q .width * q .height * q .channels) (s .args .samples .now) (s .pre .held)
 

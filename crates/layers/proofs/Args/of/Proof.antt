@@ -5,4 +5,4 @@ use Rattle.layers.proofs.Args.of.Tie as tie
 
 pub of-spec : {M : Type 1} → statement M
 of-spec =
-    tie.close (tie.spec (λ c κs. search needs) (λ c κs. search needs) (λ c κs. search needs) (λ c κs. search needs) (λ c. cc))
+    tie.close (tie.spec (λ c κs. search needs) (λ c κs. search needs) (λ c κs. search needs) (λ c κs. search needs) (λ c. rw (c .before .before .before .arg .ensures, c .before .before .arg2 .ensures, c .before .arg3 .ensures, c .arg4 .ensures)))

@@ -5,4 +5,4 @@ use Rattle.layers.proofs.ChannelMask.of.Tie as tie
 
 pub of-spec : {M : Type 1} → statement M
 of-spec =
-    tie.close (tie.spec (λ c κs. search needs) (λ c κs. search needs) (λ c κs. search needs) (λ c κs. search needs) (λ c. cc))
+    tie.close (tie.spec (λ c κs. search needs) (λ c κs. search needs) (λ c κs. search needs) (λ c κs. search needs) (λ c. rw (c .before .before .before .flag .ensures, c .before .before .flag2 .ensures, c .before .flag3 .ensures, c .flag4 .ensures)))

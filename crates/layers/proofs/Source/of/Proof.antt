@@ -5,4 +5,4 @@ use Rattle.layers.proofs.Source.of.Tie as tie
 
 pub of-spec : {M : Type 1} → statement M
 of-spec =
-    tie.close (tie.spec (λ c κs. search needs) (λ c κs. search needs) (λ c κs. search needs) (λ c κs. search needs) (λ c. cc))
+    tie.close (tie.spec (λ c κs. search needs) (λ c κs. search needs) (λ c κs. search needs) (λ c κs. search needs) (λ c. rw (c .before .before .before .natural-at .ensures, c .before .before .natural-at2 .ensures, c .before .natural-at3 .ensures, c .natural-at4 .ensures)))

@@ -2,7 +2,7 @@
 -- rows left. The measure is the number of these. Assumes nothing.
 use mathlib.Core.Path.{_≡_, sym, ap, _∙_}
 use mathlib.Core.List.{List}
-use Prim.Native.Nat.{_-_, _≤_}
+use Prim.Native.Nat.{_-_}
 use native.Mathlib.Omega.{arith}
 use lib.IntN.{ℤ}
 use borrow.Author.Needs.{needs}
@@ -14,7 +14,7 @@ use Rattle.layers.proofs.inputs.rows_fault.Statement.{statement}
 use Rattle.layers.proofs.inputs.rows_fault.Tie as tie
 
 abbrev Inv-loop : tie.InvT-loop
-Inv-loop table layers samples k₀ k = (k ≤ layers) × (rowsFault table samples 0 layers ≡ rowsFault table samples k (layers - k))
+Inv-loop table layers samples k₀ k = rowsFault table samples 0 layers ≡ rowsFault table samples k (layers - k)
 
 abbrev μ-loop : tie.MeasureT-loop
 μ-loop table layers samples k₀ k = layers - k
@@ -33,15 +33,15 @@ asked c = c .fault .ensures ∙ ap (λ (row : List ℤ). layerFault row (start c
 returns : tie.Need-returns Inv-loop μ-loop
 returns c =
     let row = c .before in
-    sym (at-loop row .loop .inv .1 ∙ found _ _ (row .before .before .loop-test .taken) (asked row) (c .if1 .taken))
+    sym (at-loop row .loop .inv ∙ found _ _ (row .before .before .loop-test .taken) (asked row) (c .if1 .taken))
 
 loop-again : tie.Need-loop-again Inv-loop μ-loop
 loop-again c =
     let row = c .before in
-    (omega arith, at-loop row .loop .inv .1 ∙ next _ _ (row .before .before .loop-test .taken) (asked row) (c .if1 .left))
+    at-loop row .loop .inv ∙ next _ _ (row .before .before .loop-test .taken) (asked row) (c .if1 .left)
 
 returns-2 : tie.Need-returns-2 Inv-loop μ-loop
-returns-2 c = let test = c .before in sym (test .loop .inv .1 ∙ done _ _ _ _ (c .loop-test .left))
+returns-2 c = let test = c .before in sym (test .loop .inv ∙ done _ _ _ _ (c .loop-test .left))
 
 pub rows-fault-spec : {M : Type 1} → statement M
 rows-fault-spec =
@@ -49,7 +49,7 @@ rows-fault-spec =
     (tie.spec
     Inv-loop
     μ-loop
-    (λ c. (omega arith, none-passed (c .args .table .now) (c .args .samples) (c .args .layers)))
+    (λ c. none-passed (c .args .table .now) (c .args .samples) (c .args .layers))
     (λ c κs. search needs)
     (λ c κs. search needs)
     returns

@@ -25,9 +25,13 @@ natural c = sym (ap opOf (from-zero (c .before .fits .n) (c .if1 .left)))
 listed : (c : tie.After-lookup) → ListedAt (natAbs (c .before .before .args .n)) (c .lookup .result)
 listed c = rw (toZ-ofZ (c .before .before .fits .n)) at (c .lookup .ensures)
 
+-- the match found one
+abbrev found-at : tie.After-named → tie.After-lookup
+found-at c = c .before .before .before .before
+
 returns-2 : tie.Need-returns-2
 returns-2 c =
-    let looked-up = c .before .before .before .before in
+    let looked-up = found-at c in
     c .named .ensures ∙ found _ (looked-up .lookup .result) (listed looked-up) (c .before .before .op .given .1) ∙ natural (looked-up .before)
 
 returns-3 : tie.Need-returns-3

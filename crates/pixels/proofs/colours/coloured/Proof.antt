@@ -4,7 +4,9 @@ use Rattle.pixels.proofs.colours.coloured.Statement.{statement}
 use Rattle.pixels.proofs.colours.coloured.Tie as tie
 
 returns : tie.Need-returns
-returns c = rw (c .coloured-by .ensures, c .before .hsl-to-rgb .ensures, c .before .before .hsl-at3 .ensures, c .before .before .before .hsl-at2 .ensures, c .before .before .before .before .hsl-at .ensures)
+returns c =
+    let z = c .before .before in
+    rw (c .coloured-by .ensures, c .before .hsl-to-rgb .ensures, z .hsl-at3 .ensures, z .before .hsl-at2 .ensures, z .before .before .hsl-at .ensures)
 
 pub coloured-spec : {M : Type 1} → statement M
 coloured-spec =

@@ -4,7 +4,11 @@ use Rattle.pixels.proofs.colours.root_mean_square.Statement.{statement}
 use Rattle.pixels.proofs.colours.root_mean_square.Tie as tie
 
 returns : tie.Need-returns
-returns c = rw (c .sqrt .ensures, c .before .square3 .ensures, c .before .before .before .before .square2 .ensures, c .before .before .before .before .before .before .before .square .ensures)
+returns c =
+    let blue = c .before in
+    let green = blue .before .before .before in
+    let red = green .before .before .before in
+    rw (c .sqrt .ensures, blue .square3 .ensures, green .square2 .ensures, red .square .ensures)
 
 pub root-mean-square-spec : {M : Type 1} → statement M
 root-mean-square-spec =

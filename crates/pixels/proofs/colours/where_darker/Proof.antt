@@ -7,11 +7,15 @@ use Rattle.pixels.proofs.colours.where_darker.Tie as tie
 
 returns : tie.Need-returns
 unfolding whereDarker
-returns c = rw (← c .before .before .before .before .intensity .ensures, ← c .before .before .intensity2 .ensures) (yes _ _ (c .if1 .taken))
+returns c =
+    let y = c .before .before in
+    rw (← y .before .before .intensity .ensures, ← y .intensity2 .ensures) (yes _ _ (c .if1 .taken))
 
 returns-2 : tie.Need-returns-2
 unfolding whereDarker
-returns-2 c = rw (← c .before .before .before .before .intensity .ensures, ← c .before .before .intensity2 .ensures) (no _ _ (c .if1 .left))
+returns-2 c =
+    let y = c .before .before in
+    rw (← y .before .before .intensity .ensures, ← y .intensity2 .ensures) (no _ _ (c .if1 .left))
 
 pub where-darker-spec : {M : Type 1} → statement M
 where-darker-spec =

@@ -5,7 +5,8 @@ use Rattle.pixels.proofs.porter_duff.xor.Tie as tie
 
 returns : tie.Need-returns
 returns c =
-    let blue = c .before .before .before .before in
+    let alpha = c .before .before in
+    let blue = alpha .before .before in
     rw (blue .xor-channel3 .ensures, blue .before .xor-channel2 .ensures, blue .before .before .xor-channel .ensures)
 
 pub xor-spec : {M : Type 1} → statement M
