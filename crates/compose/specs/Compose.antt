@@ -51,8 +51,7 @@ abbrev pub inside : Index → Bool
 inside (At n) = true
 inside Off = false
 
--- Whether a layer writes pixel j, as `outside_overlay` (composite.rs 616 to 618) has it: it lies on the source, or overlay
--- is on.
+-- whether a layer writes pixel j, as `outside_overlay` (composite.rs 616 to 618) has it: it lies on the source, or overlay is on
 unfoldable pub writes : Layer → (dw dh j : ℕ) → Bool
 writes l dw dh j = inside (indexOn l dw dh j) || l .«outside_overlay»
 
@@ -71,25 +70,15 @@ abbrev pub floatOf : ℕ → Float
 floatOf n = ofInt binary32 (pos n)
 
 -- `px` and `py` of `Displace` (composite.rs 1156 to 1162) and of `Distort` (composite.rs 1163 to 1169): at is x or y, v the source's red or green, by X or Y
-abbrev pub displaced : (at : ℕ) → (v by : Float) → Float
-displaced at v by = floatOf at ⊕ (v ⊖ half) ⊗ by
-
-abbrev pub distorted : (v by : Float) → Float
-distorted v by = v ⊗ by
-
 unfoldable pub mapCoordinate : (displace : Bool) → (at : ℕ) → (v by : Float) → Float
-mapCoordinate displace at v by = cond displace (displaced at v by) (distorted v by)
-
--- where that falls along a side of the picture beneath
-abbrev pub mapAxis : (displace : Bool) → (at : ℕ) → (v by : Float) → (side : ℕ) → Axis
-mapAxis displace at v by side = axisOf (mapCoordinate displace at v by) side
+mapCoordinate displace at v by = cond displace (floatOf at ⊕ (v ⊖ half) ⊗ by) (v ⊗ by)
 
 -- where a map reads the picture beneath for pixel j, on which the source's pixel s lies: the columns by its red, the rows by its green
 abbrev pub mapColumn : Layer → (dw : ℕ) → (s : Rgba) → (j : ℕ) → Axis
-mapColumn l dw s j = mapAxis (sameOp (l .op) O.Displace) (j % dw) (s .r) (paramsOf (l .op) (l .args) .a) dw
+mapColumn l dw s j = axisOf (mapCoordinate (sameOp (l .op) O.Displace) (j % dw) (s .r) (paramsOf (l .op) (l .args) .a)) dw
 
 abbrev pub mapRow : Layer → (dw dh : ℕ) → (s : Rgba) → (j : ℕ) → Axis
-mapRow l dw dh s j = mapAxis (sameOp (l .op) O.Displace) (j / dw) (s .g) (paramsOf (l .op) (l .args) .b) dh
+mapRow l dw dh s j = axisOf (mapCoordinate (sameOp (l .op) O.Displace) (j / dw) (s .g) (paramsOf (l .op) (l .args) .b)) dh
 
 -- ---- its result
 

@@ -3,6 +3,7 @@
 use mathlib.Core.Bool.{Bool, cond, _||_}
 use mathlib.Core.List.{List}
 use Prim.Native.Nat.{ℕ, _+_, _/_, _%_}
+use Rattle.float_steps.specs.Axis.{axisOf}
 use Rattle.float_steps.specs.declared.axis.Axis.{Axis}
 use Rattle.operators.specs.Operators.{sameOp}
 use Rattle.operators.specs.declared.CompositeOp.the-variants as O
@@ -15,7 +16,7 @@ use Rattle.pictures.specs.declared.Rgba.{Rgba}
 use Rattle.pictures.specs.declared.Words.{Words}
 use Rattle.pixels.specs.Pixel.{pixelOf}
 use Rattle.compose.specs.Arguments.{paramsOf}
-use Rattle.compose.specs.Compose.{cornerOf, inside, sourcePixel, readsThrough, mapAxis, writtenOf}
+use Rattle.compose.specs.Compose.{cornerOf, inside, sourcePixel, readsThrough, mapCoordinate, writtenOf}
 use Rattle.compose.specs.declared.Plan.{Plan}
 
 -- a layer on a destination of dw by dh pixels
@@ -45,10 +46,10 @@ abbrev pub writesBy : Plan → (x y : ℕ) → Bool
 writesBy p x y = inside (indexBy p x y) || p .overlay
 
 abbrev pub mapColumnBy : Plan → (s : Rgba) → (x : ℕ) → Axis
-mapColumnBy p s x = mapAxis (p .displace) x (s .r) (p .params .a) (p .dw)
+mapColumnBy p s x = axisOf (mapCoordinate (p .displace) x (s .r) (p .params .a)) (p .dw)
 
 abbrev pub mapRowBy : Plan → (s : Rgba) → (y : ℕ) → Axis
-mapRowBy p s y = mapAxis (p .displace) y (s .g) (p .params .b) (p .dh)
+mapRowBy p s y = axisOf (mapCoordinate (p .displace) y (s .g) (p .params .b)) (p .dh)
 
 abbrev pub paintedBy : Plan → (s d : Rgba) → Rgba
 paintedBy p s d = pixelOf (p .op) (p .params) s d

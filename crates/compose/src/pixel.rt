@@ -6,7 +6,8 @@ ghost use Rattle.lent.specs.Lent.{before};
 ghost use Rattle.layers.specs.GoodLayers.{Picture};
 ghost use Rattle.pictures.specs.Steps.{valuesAt};
 ghost use Rattle.places.specs.Bounds.{slack, Under};
-ghost use Rattle.compose.specs.Compose.{sourcePixel, mapCoordinate, mapAxis, writtenWord, writtenOf};
+ghost use Rattle.float_steps.specs.Axis.{axisOf};
+ghost use Rattle.compose.specs.Compose.{sourcePixel, mapCoordinate, writtenWord, writtenOf};
 ghost use Rattle.compose.specs.Plans.{indexBy, writesBy, mappedBy, paintedBy, resultBy, composedBy};
 ghost use Rattle.compose.specs.Ready.{Ready, Beneath};
 use crate::Plan;
@@ -23,7 +24,8 @@ use pictures::widen::values;
 use places::Index;
 use places::source_index;
 
-// Whether the layer writes the pixel (x, y), on which the source's pixel `index` lies: there is one, or overlay is on.
+// Whether the layer writes the pixel (x, y), on which the source's pixel `index` lies: there is one, or overlay is on. The
+// column and the row stand here for the contract alone.
 pub fn writing(p: Plan, index: Index, x: usize, y: usize) -> bool
     requires { ⌜ index ≡ indexBy p x y ⌝ }
     ensures { λ r. ⌜ r ≡ writesBy p x y ⌝ }
@@ -63,7 +65,7 @@ fn map_coordinate(displace: bool, at: usize, v: f32, by: f32) -> f32
 // Where a map reads the picture beneath along one of its sides.
 pub fn map_axis(displace: bool, at: usize, v: f32, by: f32, side: usize) -> Axis
     requires { ⌜ (at < side) × (side ≤ slack) ⌝ }
-    ensures { λ r. ⌜ r ≡ mapAxis displace at v by side ⌝ }
+    ensures { λ r. ⌜ r ≡ axisOf (mapCoordinate displace at v by) side ⌝ }
 {
     locate(map_coordinate(displace, at, v, by), side)
 }

@@ -1,6 +1,6 @@
 // The single composition: one layer on a destination of one, three or four channels, into a lent output of four.
 ghost use mathlib.Core.Path.{_≡_};
-ghost use Prim.Native.Nat.{_+_, _*_, _≤_};
+ghost use Prim.Native.Nat.{_+_, _*_};
 ghost use lib.IntN.{pos};
 ghost use lib.ListN.{length};
 ghost use Rattle.lent.specs.Lent.{before, after};
@@ -8,7 +8,6 @@ ghost use Rattle.layers.specs.GoodLayers.{GoodLayer, Picture};
 ghost use Rattle.layers.specs.Inputs.{inputs};
 ghost use Rattle.pictures.specs.Widen.{rgbaAt};
 ghost use Rattle.pictures.specs.FlatWords.{flat};
-ghost use Rattle.pictures.specs.Steps.{filled};
 ghost use Rattle.compose.specs.Compose.{composedOf};
 ghost use Rattle.compose.specs.Plans.{pixelOn};
 ghost use Rattle.compose.specs.Ready.{Ready, Span};

@@ -1,6 +1,6 @@
 -- The numbers of a job, each once: its limits, the columns of a layer's row and the bits of its flags (document 01, "Why a
--- job is turned down" and the line on flags). The associated constants of the layer type have the same values.
--- The largest side stands in pictures/specs/Shapes.
+-- job is turned down" and the line on flags). The associated constants of the layer type and of `ChannelMask` have the
+-- same values. The largest side stands in pictures/specs/Shapes, the last gravity in places/specs/Gravities.
 use Prim.Native.Nat.{ℕ}
 
 -- the numbers that the layer table has for a layer, and the words of its arguments

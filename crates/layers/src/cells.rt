@@ -36,6 +36,7 @@ pub fn cell(row: &[i64], column: usize) -> i64
     row[column]
 }
 
+// It as an unsigned number, a negative one as 0.
 pub fn natural_at(row: &[i64], column: usize) -> usize
     requires { ⌜ column < length (now row) ⌝ }
     ensures { λ r. ⌜ r ≡ natOf (cellOf (before row) column) ⌝ }
@@ -43,6 +44,7 @@ pub fn natural_at(row: &[i64], column: usize) -> usize
     natural(cell(row, column))
 }
 
+// Whether it is not from lo to hi.
 pub fn outside_at(row: &[i64], column: usize, lo: i64, hi: i64) -> bool
     requires { ⌜ column < length (now row) ⌝ }
     ensures { λ r. ⌜ r ≡ outsideZ lo hi (cellOf (before row) column) ⌝ }

@@ -56,7 +56,7 @@ fn source_shape(row: &[i64]) -> Shape
     }
 }
 
-// Whether the source of a row is none, or does not lie in so many samples.
+// Whether a row's source has a start, a side or channels out of their range, or does not lie in so many samples.
 fn bad_source(row: &[i64], samples: usize) -> bool
     requires { ⌜ length (now row) ≡ columns ⌝ }
     ensures { λ r. ⌜ r ≡ badSource (before row) samples ⌝ }
@@ -73,7 +73,7 @@ fn bad_source(row: &[i64], samples: usize) -> bool
 }
 
 impl Layer {
-    // The number of a row's first fault.
+    // The number of a row's first fault, or NONE.
     pub fn fault(row: &[i64], samples: usize) -> u64
         requires { ⌜ length (now row) ≡ columns ⌝ }
         ensures { λ r. ⌜ r ≡ layerFault (before row) samples ⌝ }

@@ -39,7 +39,7 @@ fn bad_dst(shape: Shape, dst: usize) -> bool
     dst != sample_count(shape)
 }
 
-// The first fault of so many rows, with its row.
+// The first fault of so many rows, with its row; NONE and 0 where there is none.
 fn rows_fault(table: &[i64], layers: usize, samples: usize) -> Verdict
     requires { ⌜ layers * columns ≤ length (now table) ⌝ }
     ensures { λ r. ⌜ r ≡ rowsFault (before table) samples 0 layers ⌝ }

@@ -64,7 +64,7 @@ impl ChannelMask {
 }
 
 impl Layer {
-    // What the layer table and the arguments have for a layer, and a job's limits.
+    // What the layer table and the arguments have for a layer, a job's limits, and the first two bits of the flags.
     pub const COLUMNS: usize = 10;
 
     pub const ARGS: usize = 4;

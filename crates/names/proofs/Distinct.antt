@@ -12,7 +12,8 @@ use borrow.Author.Tests.{eq-eqb}
 use Rattle.laws.proofs.Tables.{at-each}
 use Rattle.operators.specs.Operators.{numberOf}
 use Rattle.operators.specs.declared.CompositeOp.the-variants.{Over}
-use Rattle.names.specs.Names.{Entry, name, entries, words, numbers, keyOf, same, isKept, lower, fromName}
+use Rattle.names.specs.Names.{Entry, name, entries, keyOf, same, isKept, lower, fromName}
+use Rattle.names.specs.Packed.{words, numbers}
 use Rattle.names.specs.declared.Named.{Named}
 use Rattle.names.specs.declared.Named.the-variants.{Operator, Unknown}
 

@@ -7,8 +7,8 @@ use native.Mathlib.Nat.{add-zero, add-suc, suc-add, zero-add}
 use native.Mathlib.Omega.{arith}
 use lib.ListN.{length, getD}
 use Rattle.operators.specs.Operators.{numberOf}
-use Rattle.names.specs.Names.{Entry, entries, words, numbers, same, lookup}
-use Rattle.names.specs.Packed.{placeFrom}
+use Rattle.names.specs.Names.{Entry, entries, same, lookup}
+use Rattle.names.specs.Packed.{words, numbers, placeFrom}
 use Rattle.names.specs.declared.Named.{Named}
 use Rattle.names.specs.declared.Named.the-variants.{Operator, Unknown}
 use Rattle.names.specs.declared.Place.{Place}

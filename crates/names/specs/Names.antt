@@ -48,12 +48,6 @@ aliases =
 unfoldable pub entries : List Entry
 entries = map (λ (o : CompositeOp). name (line o .name) o) operators ++ aliases
 
-abbrev pub words : List Entry → List (List ℕ)
-words es = map (λ (e : Entry). e .word) es
-
-unfoldable pub numbers : List ℕ
-numbers = map (λ (e : Entry). numberOf (e .op)) entries
-
 -- '-', '_' and space are dropped
 unfoldable pub isKept : ℕ → Bool
 isKept b = not (eqb b (code "-") || eqb b (code "_") || eqb b (code " "))

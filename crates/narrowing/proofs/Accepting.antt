@@ -13,7 +13,8 @@ use Rattle.faults.specs.Faults.{NONE, NARROW}
 use Rattle.pictures.specs.Shapes.{natOf, badChannels}
 use Rattle.pictures.specs.Steps.{Channels}
 use Rattle.pictures.proofs.Ranges.{all-fail, channelled}
-use Rattle.narrowing.specs.Narrow.{narrowedOf, narrowFault, acceptedChannels}
+use Rattle.narrowing.specs.Narrow.{narrowedOf, narrowFault}
+use Rattle.narrowing.specs.Steps.{acceptedChannels}
 use Rattle.narrowing.proofs.Narrowed.{length-narrowed}
 
 -- ---- accepted or not

@@ -12,7 +12,8 @@ use lib.Seq.{paste-suc, take-all}
 use Rattle.faults.specs.Faults.{NONE, NARROW}
 use Rattle.pictures.specs.Shapes.{natOf}
 use Rattle.pictures.specs.Steps.{Channels}
-use Rattle.narrowing.specs.Narrow.{narrowedOf, narrowFault, narrowed, narrowedUnless, acceptedChannels}
+use Rattle.narrowing.specs.Narrow.{narrowedOf, narrowFault, narrowed, narrowedUnless}
+use Rattle.narrowing.specs.Steps.{acceptedChannels}
 use Rattle.narrowing.proofs.Accepting.{Accepted, accepted, refused}
 
 -- z is wanted and accepted as k channels, and i elements of the output are written

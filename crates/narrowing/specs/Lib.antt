@@ -1,2 +1,3 @@
 pub mod Luma
 pub mod Narrow
+pub mod Steps

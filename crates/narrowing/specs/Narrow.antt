@@ -63,9 +63,3 @@ narrowOf wanted input output =
 abbrev pub narrowBytesOf : ℤ → List ℕ → List ℕ → Narrowed
 narrowBytesOf wanted input output =
     narrowedUnless (narrowFault wanted (length input) (length output)) (bytesOf (narrowedOf (natOf wanted) input)) output
-
--- ---- what the code works with
-
--- the channels wanted; 0 where there is a fault
-unfoldable pub acceptedChannels : ℤ → ℕ → ℕ → ℕ
-acceptedChannels wanted input output = cond (eqb (narrowFault wanted input output) NONE) (natOf wanted) 0

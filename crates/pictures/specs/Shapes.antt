@@ -16,7 +16,7 @@ natOf (negsuc n) = 0
 unfoldable pub outsideZ : ℤ → ℤ → ℤ → Bool
 outsideZ lo hi z = ltZ z lo || ltZ hi z
 
--- a picture has 1, 3 or 4 channels
+-- z is none of 1, 3 and 4, which a picture's channels may be
 unfoldable pub badChannels : ℤ → Bool
 badChannels (pos n) = not (eqb n 1 || eqb n 3 || eqb n 4)
 badChannels (negsuc n) = true

@@ -28,7 +28,7 @@ pub record InPicture (picture : List ℕ) (channels w h : ℕ) (x y : Axis) : Ty
 abbrev pub valuesAt : List ℕ → (channels : ℕ) → (j : ℕ) → Rgba
 valuesAt picture channels j = valuesOf (rgbaAt picture channels j)
 
--- a list whose first n pixels are replaced by f 0, f 1, ..
+-- a list of at least n pixels, whose first n are replaced by f 0, f 1, ..
 abbrev pub filled : (ℕ → Words) → ℕ → List ℕ → List ℕ
 filled f n out = flat f 0 n ++ drop (4 * n) out
 

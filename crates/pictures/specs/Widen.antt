@@ -26,7 +26,7 @@ threeAt picture at = wordsOf (getD picture at 0) (getD picture (at + 1) 0) (getD
 abbrev pub oneAt : List ℕ → ℕ → Words
 oneAt picture at = wordsOf (getD picture at 0) (getD picture at 0) (getD picture at 0) opaque
 
--- pixel j of a picture of four, three or one channels
+-- pixel j of a picture of four, three or one channels; any other number is read as one (the last arm of `to_rgba`)
 unfoldable pub rgbaAt : List ℕ → ℕ → ℕ → Words
 rgbaAt picture channels j =
     cond (eqb channels 4) (fourAt picture (channels * j)) (cond (eqb channels 3) (threeAt picture (channels * j)) (oneAt picture (channels * j)))

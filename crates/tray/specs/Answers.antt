@@ -1,6 +1,5 @@
 -- What the exported calls answer, where a host's form of an answer differs from the library's. Definitions only.
 use mathlib.Core.Bool.{cond}
-use mathlib.Core.List.{List}
 use Prim.Native.Nat.{ℕ}
 use Rattle.faults.specs.Faults.{NONE, OPERATOR}
 use Rattle.job.specs.Memory.{Mem}
@@ -30,19 +29,7 @@ pub record HostOutcome : Type 0 where
   pub finished : ℕ
 
 abbrev pub hostOutcome : Mem → (number layer stores finished : ℕ) → HostOutcome
-hostOutcome mem number layer stores finished = record {
-  mem = mem;
-  number = number;
-  layer = layer;
-  stores = stores;
-  finished = finished;
-}
+hostOutcome mem number layer stores finished = record { mem = mem; number = number; layer = layer; stores = stores; finished = finished }
 
 abbrev pub jobOutcome : Outcome → HostOutcome
-jobOutcome o = record {
-  mem = o .mem;
-  number = o .answer .number;
-  layer = o .answer .layer;
-  stores = o .answer .stores;
-  finished = cond (o .answer .finished) 1 0;
-}
+jobOutcome o = let a = o .answer in hostOutcome (o .mem) (a .number) (a .layer) (a .stores) (cond (a .finished) 1 0)

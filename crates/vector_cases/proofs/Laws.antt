@@ -1,5 +1,5 @@
 -- Laws on what is read from a line, what is called with it and how the answer is compared: one for each function and answer. Assumes nothing.
-use mathlib.Core.Path.{_≡_, refl, ap, _∙_}
+use mathlib.Core.Path.{_≡_, ap, _∙_}
 use mathlib.Core.Bool.{Bool, true, false}
 use mathlib.Core.List.{List}
 use Prim.Native.Nat.{ℕ, _-_, _<_, _≤_}
@@ -16,14 +16,14 @@ use Rattle.vector_lines.specs.Numbers.{nowhere, largest, numberAt, expectedAt, 
 use Rattle.vector_lines.specs.Lists.{Listed, listed, numbersAt, bytesAt, wordsAt, same, ifSame}
 use Rattle.vector_lines.proofs.Reading.{signed-back}
 use Rattle.vector_rooms.specs.declared.Shaped.{Shaped}
-use Rattle.vector_rooms.specs.Rooms.{shapeAt, Layered, layered, layersAt, given, Composing, composing, withDst, withLayers, dstAt, listsAt, inputsBy}
+use Rattle.vector_rooms.specs.Rooms.{shapeAt, Layered, layered, layersAt, Composing, composing, withDst, withLayers, dstAt, listsAt, inputsBy}
 use Rattle.pictures.specs.Shapes.{shapeOf}
 use Rattle.layers.specs.Inputs.{Inputs, inputsOf}
 use Rattle.compose.specs.Single.{Composed, composed, composeOf}
 use Rattle.names.specs.Names.{fromName}
 use Rattle.narrowing.specs.Narrow.{Narrowed, narrowed, narrowOf, narrowBytesOf}
 use Rattle.tray.specs.Answers.{NameAnswer, named, nameOf}
-use Rattle.vector_cases.specs.Cases.{namedAt, nameBy, nameAt, listedAs, writtenAt, lentOf, narrowedAt, narrowedBytesAt}
+use Rattle.vector_cases.specs.Cases.{namedAt, nameBy, nameAt, listedAs, writtenAt, narrowedAt, narrowedBytesAt}
 use Rattle.vector_cases.specs.Cases.{narrowingBy, narrowingFrom, narrowingAfter, narrowingAt, inputAt}
 use Rattle.vector_cases.specs.Cases.{composedAt, composedBy, answeredAt, compositionBy, compositionAt}
 

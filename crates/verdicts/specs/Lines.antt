@@ -1,8 +1,8 @@
 -- The lines of a text, the kind of each, and how those that are answered right and wrong are counted; oracle/README.md has the form. Definitions only.
-use mathlib.Core.Bool.{Bool, false, cond, not, _&&_, _||_}
+use mathlib.Core.Bool.{Bool, cond, not, _&&_, _||_}
 use mathlib.Core.List.{List, [], _∷_}
 use Prim.Native.Nat.{ℕ, suc, _+_}
-use lib.Dec.{eqb, ltb}
+use lib.Dec.{eqb}
 use lib.ListN.{length, getD, set, drop}
 use Rattle.lent.specs.Lent.{Lent, before, after}
 use Rattle.verdicts.specs.Tally.{tallied}

@@ -2,8 +2,8 @@
 -- place that the search answers is that of the entry. Assumes nothing.
 use mathlib.Core.Path.{_≡_, sym, ap, _∙_}
 use borrow.Author.Needs.{needs}
-use Rattle.names.specs.Names.{entries, words, numbers, keyOf, fromName}
-use Rattle.names.specs.Packed.{placeFrom}
+use Rattle.names.specs.Names.{entries, keyOf, fromName}
+use Rattle.names.specs.Packed.{words, numbers, placeFrom}
 use Rattle.names.specs.declared.Named.the-variants.{Operator}
 use Rattle.names.proofs.Known.{atPlace, place-known, place-below}
 use Rattle.names.proofs.from_name.Statement.{statement}

@@ -9,7 +9,8 @@ use borrow.Author.Needs.{needs}
 use borrow.Author.Tests.{eq-eqb, ne-eqb}
 use Rattle.pictures.specs.Shapes.{natOf, badChannels}
 use Rattle.pictures.proofs.Ranges.{channelled, channels-most}
-use Rattle.narrowing.specs.Narrow.{narrowFault, acceptedChannels}
+use Rattle.narrowing.specs.Narrow.{narrowFault}
+use Rattle.narrowing.specs.Steps.{acceptedChannels}
 use Rattle.narrowing.proofs.accepted_channels.Statement.{statement}
 use Rattle.narrowing.proofs.accepted_channels.Tie as tie
 

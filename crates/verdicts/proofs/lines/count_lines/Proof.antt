@@ -1,7 +1,6 @@
 -- `count_lines` meets its contract. The invariant: the lines before `from` are counted. The measure is how many bytes are left. Assumes nothing.
 use Prim.Native.Nat.{_+_, _-_}
 use mathlib.Core.Path.{_≡_, refl}
-use native.Mathlib.Omega.{arith}
 use lib.ListN.{length}
 use borrow.Author.Needs.{needs}
 use Rattle.verdicts.specs.Lines.{counted}
