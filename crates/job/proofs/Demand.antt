@@ -1,6 +1,7 @@
 -- DEMAND 3, one theorem about a list of calls of any length: `demand-3`, at the end of this file. Its hypotheses are all there: a job whose call at
--- position 0 has no fault, whatever its work buffers hold; and a list of calls in which those that are named as refused are refused. It rests on the
--- call's contract (specs/Call), on what `store` asks (specs/Uses) and on the reference model (specs/Model) alone. Assumes nothing.
+-- position 0 has no fault, whatever its work buffers hold; and a list of calls in which those that are named as refused are refused. `taken-up` says the
+-- same of a job that is taken up in the middle. Both rest on the call's contract (specs/Call), on what `store` asks (specs/Uses) and on the reference
+-- model (specs/Model) alone. Assumes nothing.
 use mathlib.Core.Path.{_≡_, refl, _∙_, sym}
 use mathlib.Core.List.{List, [], _∷_}
 use mathlib.Core.Logic.{⊎-elim}
@@ -22,7 +23,7 @@ use Rattle.job.specs.Model.{pictureOf, entriesOf, Call, allowed, cut, re
 use Rattle.job.specs.Demand.{programOf, history, memoryAfter, FairCall, Fair, beneathIn, beneathOf, Underway, Demand3}
 use Rattle.job.specs.Uses.{batchOf, Midway}
 use Rattle.job.proofs.Runs.{place-div, start-midway}
-use Rattle.job.proofs.Sequence.{work-length, picture-length, left-length, Beneath, begun-again, Progress, Made, made}
+use Rattle.job.proofs.Sequence.{work-length, picture-length, left-length, Beneath, Here, begun-again, Progress, Made, made}
 use Rattle.job.proofs.Checked.{some-pixel, call-midway, midway-call, call-made, call-refused}
 use Rattle.job.proofs.Loans.{returned-same}
 use Rattle.job.proofs.Uses.{uses-are}
@@ -120,6 +121,40 @@ module _ (i : Inputs) (m : Mem) (v : Progress i m) where
       let h = v .here (some-pixel i (positionOf m) l) in
       record { written = rw add-zero at (h .right); beneath = beneath-is (phaseAt i (positionOf m)) (h .below) }
 
+-- ---- calls on memory that a call can take up
+
+module _ (i : Inputs) (m : Mem) where
+  below-of : (k : ℕ) → beneathIn i m k ≡ beneathOf i k → Beneath i m k
+  below-of zero h b e = absurd (omega arith)
+  below-of (suc k) h b e = let x : b ≡ k = omega arith in rw x h
+
+  underway-here : Underway i m → Here i m (positionOf m) 0
+  underway-here u = record { right = rw add-zero (u .written); below = below-of (phaseAt i (positionOf m)) (u .beneath) }
+
+  from-here : Progress i m → (calls : List Call) → Fair i m calls → Demand3 i m calls
+  from-here v calls f =
+      let r = calls-are i m calls v f in
+      let end = memoryAfter (modelOf i) m calls in
+      record {
+        same = r .0;
+        memory = r .1;
+        finished = rw (r .1) (finished-is i end (r .2));
+        earlier = rw (r .1) (earlier-is i end (r .2));
+        gain = rw (r .1) (λ n. rw (call-is i n end (r .2)) (gained i n end (r .2)));
+        uses = rw (r .1) (λ n ws. uses-are i end n ws (r .2));
+      }
+
+-- DEMAND 3, taken up: the same from any memory in which a call has no fault, the picture being written is right up to the position and the one beneath it
+-- is whole. What the work buffers hold beyond may be anything: so a job may be taken up from a position that was kept together with these pictures alone.
+pub taken-up :
+    (i : Inputs) (m : Mem)
+    → callFault i m .number ≡ NONE
+    → Underway i m
+    → (calls : List Call)
+    → Fair i m calls
+    → Demand3 i m calls
+taken-up i m e u = from-here i m (record { fit = e; here = λ z. underway-here i m u })
+
 -- DEMAND 3. Of any job that is free of faults at position 0, whatever its work buffers hold, any list of calls, with any allowances, any of them cut
 -- after any number of writes, refused ones among them with whatever inputs and whatever lists, leaves and answers what the reference model says.
 pub demand-3 :
@@ -128,20 +163,9 @@ pub demand-3 :
     → (calls : List Call)
     → Fair i (memOf work0 work1 (0 ∷ [])) calls
     → Demand3 i (memOf work0 work1 (0 ∷ [])) calls
-demand-3 i work0 work1 e calls f =
-    let r = calls-are i (memOf work0 work1 (0 ∷ [])) calls start f in
-    let m = memoryAfter (modelOf i) (memOf work0 work1 (0 ∷ [])) calls in
-    record {
-      same = r .0;
-      memory = r .1;
-      finished = rw (r .1) (finished-is i m (r .2));
-      earlier = rw (r .1) (earlier-is i m (r .2));
-      gain = rw (r .1) (λ n. rw (call-is i n m (r .2)) (gained i n m (r .2)));
-      uses = rw (r .1) (λ n ws. uses-are i m n ws (r .2));
-    }
-  where
-    start : Progress i (memOf work0 work1 (0 ∷ []))
-    start = record {
+demand-3 i work0 work1 e =
+    let m = memOf work0 work1 (0 ∷ []) in
+    from-here i m (record {
       fit = e;
       here = λ z. record { right = rw zero-mod refl; below = λ b x. absurd (omega (arith, zero-div (pixelCount i))) };
-    }
+    })
