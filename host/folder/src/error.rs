@@ -1,0 +1,51 @@
+//! Why a job folder could not be made, read or worked on.
+
+use std::fmt;
+use std::io;
+use std::path::{Path, PathBuf};
+
+/// The result of this crate's calls.
+pub type Result<T> = std::result::Result<T, Error>;
+
+/// One line, which begins with the file or the folder that is concerned.
+#[derive(Debug)]
+pub enum Error {
+    /// The system refused something.
+    System(PathBuf, io::Error),
+    /// A file or the folder is not what it should be; the text says how.
+    Wrong(PathBuf, String),
+    /// Another worker has the job.
+    Busy(PathBuf),
+    /// The library refused the job, or was not called because of the thread's floating-point environment.
+    Refused(PathBuf, tray::Error<tray::Refusal>),
+}
+
+impl Error {
+    pub(crate) fn wrong<T>(path: &Path, what: impl Into<String>) -> Result<T> {
+        Err(Error::Wrong(path.to_path_buf(), what.into()))
+    }
+}
+
+impl fmt::Display for Error {
+    fn fmt(&self, f: &mut fmt::Formatter) -> fmt::Result {
+        match self {
+            Error::System(path, error) => write!(f, "{}: {error}", path.display()),
+            Error::Wrong(path, what) => write!(f, "{}: {what}", path.display()),
+            Error::Busy(path) => write!(f, "{}: another worker has this job", path.display()),
+            Error::Refused(path, error) => write!(f, "{}: {error}", path.display()),
+        }
+    }
+}
+
+impl std::error::Error for Error {}
+
+/// Names the file that the system's error is about.
+pub(crate) trait At<T> {
+    fn at(self, path: &Path) -> Result<T>;
+}
+
+impl<T> At<T> for io::Result<T> {
+    fn at(self, path: &Path) -> Result<T> {
+        self.map_err(|error| Error::System(path.to_path_buf(), error))
+    }
+}

@@ -1,0 +1,295 @@
+//! A job folder: `job` (description.rs), the inputs `dst`, `table`, `args`, `samples`, and `names` (a line of text a layer,
+//! for people), what calls write, `work0`, `work1` and `mark`, each list as it stands in memory, low byte first; `lock`, which
+//! the worker holds; and what a worker keeps for the one after it, `checkpoint` and `held` (checkpoint.rs, held.rs).
+
+use crate::beside::{is_at, sweep, Part};
+use crate::checkpoint::{place, Checkpoint, Pictures};
+use crate::description::{Description, INPUTS};
+use crate::digest::digest;
+use crate::error::{At, Error, Result};
+use crate::list::List;
+use crate::system::bytes;
+use crate::{held, storage, system};
+use std::fs::{self, File, OpenOptions};
+use std::os::unix::fs::MetadataExt;
+use std::path::{Path, PathBuf};
+use std::{thread, time::Duration};
+use tray::{Fault, Inputs, Memory, ARGUMENTS, COLUMNS};
+
+pub(crate) const WORK: [&str; 2] = ["work0", "work1"];
+pub(crate) const MARK: &str = "mark";
+pub(crate) const CHECKPOINT: &str = "checkpoint";
+const JOB: &str = "job";
+const LOCK: &str = "lock";
+
+/// What a worker writes.
+pub(crate) const MEMORY: [&str; 3] = [WORK[0], WORK[1], MARK];
+
+/// Every file that a folder of a new job has.
+const NEW: [&str; 10] = [JOB, INPUTS[0], INPUTS[1], INPUTS[2], INPUTS[3], INPUTS[4], WORK[0], WORK[1], MARK, LOCK];
+
+/// A job folder that exists, by its numbers.
+#[derive(Clone, Debug, PartialEq)]
+pub struct Folder {
+    path: PathBuf,
+    job: Description,
+}
+
+/// The worker's lock on a job.
+pub struct Lock {
+    _file: File,
+}
+
+impl Folder {
+    /// Reads a folder's description. A folder two of whose files are one file (by links) is refused: a job's lists share
+    /// no memory.
+    pub fn open(path: &Path) -> Result<Self> {
+        let file = path.join(JOB);
+        let text = match fs::read(&file) {
+            Err(error) if error.kind() == std::io::ErrorKind::NotFound => return Error::wrong(path, "no job folder"),
+            read => String::from_utf8_lossy(&read.at(&file)?).into_owned(),
+        };
+        let job = Description::parse(&text).or_else(|what| Error::wrong(&file, what))?;
+        let mut seen: Vec<(&str, (u64, u64))> = vec![];
+        for name in NEW {
+            let data = fs::metadata(path.join(name)).at(&path.join(name))?;
+            let identity = (data.dev(), data.ino());
+            if let Some((other, _)) = seen.iter().find(|(_, other)| *other == identity) {
+                return Error::wrong(
+                    path,
+                    format!("{other} and {name} are one file, and a job's lists share no memory"),
+                );
+            }
+            seen.push((name, identity));
+        }
+        Ok(Folder { path: path.to_path_buf(), job })
+    }
+
+    /// Makes a new folder, whole or not at all, with room for all that its workers write: under another name beside it
+    /// first, stored before it gets its own. `names` has a line for each layer. A `create` that is killed leaves at most a
+    /// hidden folder `.tray-..`, which a later one beside it removes.
+    pub fn create(path: &Path, inputs: &Inputs, names: &[String]) -> Result<Self> {
+        accepted(inputs).map_err(|error| Error::Refused(path.to_path_buf(), error))?;
+        if fs::symlink_metadata(path).is_ok() {
+            return Error::wrong(path, "exists");
+        }
+        let beside = path.parent().filter(|folder| *folder != Path::new("")).unwrap_or_else(|| Path::new("."));
+        fs::create_dir_all(beside).at(beside)?;
+        sweep(beside, &NEW);
+        let part = Part::new(beside)?;
+        fill(part.path(), inputs, names).map_err(|error| renamed(error, part.path(), path))?;
+        part.becomes(path).at(path)?;
+        storage::sync_folder(beside).at(beside)?;
+        Folder::open(path)
+    }
+
+    /// The folder itself.
+    pub fn path(&self) -> &Path {
+        &self.path
+    }
+
+    /// A file of it.
+    pub(crate) fn at(&self, name: &str) -> PathBuf {
+        self.path.join(name)
+    }
+
+    /// The destination's width.
+    pub fn width(&self) -> usize {
+        self.job.width
+    }
+
+    /// The destination's height.
+    pub fn height(&self) -> usize {
+        self.job.height
+    }
+
+    /// The destination's channels: 1, 3 or 4.
+    pub fn channels(&self) -> usize {
+        self.job.channels
+    }
+
+    /// The count of layers.
+    pub fn layers(&self) -> usize {
+        self.job.layers
+    }
+
+    /// The pixels of a picture.
+    pub fn pixels(&self) -> usize {
+        self.job.width * self.job.height
+    }
+
+    /// The mark of the finished job.
+    pub fn total(&self) -> u64 {
+        tray::total(self.job.width as u64, self.job.height as u64, self.job.layers as u64)
+    }
+
+    /// The phase that a mark lies in, and its pixels written so far.
+    pub fn phase(&self, mark: u64) -> (u64, u64) {
+        tray::phase(mark, self.job.width as u64, self.job.height as u64)
+    }
+
+    /// How far the job is: the mark, which a worker may be raising, where it can be trusted; elsewhere the checkpoint that the
+    /// pictures bear out. A mark beyond the job's end is refused as the library refuses it.
+    pub fn position(&self) -> Result<u64> {
+        if !held::trusted(&self.path, MEMORY)? {
+            return Ok(self.checkpoint()?.position);
+        }
+        self.mapped_mark()
+    }
+
+    /// The mark as its file has it.
+    pub(crate) fn mapped_mark(&self) -> Result<u64> {
+        let path = self.at(MARK);
+        match fs::read(&path).at(&path)?.try_into().map(u64::from_ne_bytes) {
+            Ok(mark) if mark <= self.total() => Ok(mark),
+            Ok(_) => Error::wrong(&self.path, Fault::Mark.to_string()),
+            Err(_) => Error::wrong(&path, "has not 8 bytes"),
+        }
+    }
+
+    /// The checkpoint that the storage has, if the pictures that it rests on are there; otherwise the beginning.
+    pub(crate) fn checkpoint(&self) -> Result<Checkpoint> {
+        let text = fs::read(self.at(CHECKPOINT)).unwrap_or_default();
+        match Checkpoint::parse(&String::from_utf8_lossy(&text), self.total()) {
+            Some(kept) if kept.position != 0 => {
+                let (beneath, writing, bytes) = place(kept.position, self.pixels() as u64);
+                let read = |k: usize| List::<u32>::read(&self.at(WORK[k]), 4 * self.pixels());
+                let (beneath, writing) = (beneath.map(read).transpose()?, read(writing)?);
+                let beneath = beneath.as_ref().map_or(&[][..], List::bytes);
+                let pictures = Pictures { beneath, written: &writing.bytes()[..bytes] };
+                Ok(if kept.holds(&pictures) { kept } else { Checkpoint::START })
+            }
+            _ => Ok(Checkpoint::START),
+        }
+    }
+
+    /// A line for each layer, as it was given to `create`.
+    pub fn names(&self) -> Result<Vec<String>> {
+        let path = self.at("names");
+        let text = fs::read(&path).at(&path)?;
+        Ok(String::from_utf8_lossy(&text).lines().map(String::from).collect())
+    }
+
+    /// Whether a worker has the job. This asks by a shared lock, which keeps no other asker away.
+    pub fn has_worker(&self) -> Result<bool> {
+        let path = self.at(LOCK);
+        let file = File::open(&path).at(&path)?;
+        Ok(!system::try_lock(&file, true).at(&path)?)
+    }
+
+    /// The worker's lock; whoever only asks (`has_worker`) is waited for, another worker only if `wait` says so. The system
+    /// takes a lock back from a killed process when that process is gone. The file is opened to be written, since a network
+    /// file system locks no other.
+    pub fn lock(&self, wait: bool) -> Result<Lock> {
+        let path = self.at(LOCK);
+        loop {
+            let file = OpenOptions::new().read(true).write(true).open(&path).at(&path)?;
+            if wait {
+                system::lock(&file).at(&path)?;
+            } else if !system::try_lock(&file, false).at(&path)? {
+                if !system::try_lock(&file, true).at(&path)? {
+                    return Err(Error::Busy(self.path.clone()));
+                }
+                thread::sleep(Duration::from_millis(1));
+                continue;
+            }
+            // Whoever waited may have got the lock of a folder that was removed meanwhile.
+            if is_at(&file, &path) {
+                return Ok(Lock { _file: file });
+            }
+        }
+    }
+
+    /// The destination.
+    pub fn dst(&self) -> Result<List<u32>> {
+        List::read(&self.at(INPUTS[0]), self.pixels() * self.job.channels)
+    }
+
+    pub(crate) fn table(&self) -> Result<List<i64>> {
+        List::read(&self.at(INPUTS[1]), self.job.layers * COLUMNS)
+    }
+
+    pub(crate) fn args(&self) -> Result<List<u32>> {
+        List::read(&self.at(INPUTS[2]), self.job.layers * ARGUMENTS)
+    }
+
+    pub(crate) fn samples(&self) -> Result<List<u32>> {
+        List::read(&self.at(INPUTS[3]), self.job.samples)
+    }
+
+    /// Refuses inputs that are not those that the job was made with.
+    pub(crate) fn unchanged(&self, inputs: [&[u8]; 4]) -> Result<()> {
+        for ((name, kept), bytes) in INPUTS.iter().zip(self.job.digests).zip(inputs) {
+            if digest(bytes) != kept {
+                return Error::wrong(&self.at(name), "changed since the job was made; a job's inputs stay the same");
+            }
+        }
+        Ok(())
+    }
+
+    /// What work buffer k mod 2 holds now. It is read and not mapped, since a worker may be writing it.
+    pub fn work_now(&self, k: usize) -> Result<Vec<u32>> {
+        let path = self.at(WORK[k % 2]);
+        let bytes = fs::read(&path).at(&path)?;
+        if bytes.len() != 16 * self.pixels() {
+            return Error::wrong(&path, format!("has {} bytes, not {}", bytes.len(), 16 * self.pixels()));
+        }
+        Ok(bytes.chunks_exact(4).map(|b| u32::from_ne_bytes([b[0], b[1], b[2], b[3]])).collect())
+    }
+
+    /// The finished picture, which nobody writes any more.
+    pub fn finished(&self) -> Result<List<u32>> {
+        let (position, total) = (self.position()?, self.total());
+        if position != total {
+            return Error::wrong(&self.path, format!("not finished, {position} of {total} pixels"));
+        }
+        List::read(&self.at(WORK[self.job.layers % 2]), 4 * self.pixels())
+    }
+}
+
+/// The library's own word on the inputs: a call without stores.
+fn accepted(inputs: &Inputs) -> std::result::Result<(), tray::Error<tray::Refusal>> {
+    // Sides that the library refuses are refused before a work buffer is looked at, and must not be made room for.
+    let words = match (usize::try_from(inputs.width), usize::try_from(inputs.height)) {
+        (Ok(width), Ok(height)) if width.max(height) <= tray::SIDE as usize => 4 * width * height,
+        _ => 0,
+    };
+    let (mut work0, mut work1) = (vec![0; words], vec![0; words]);
+    tray::job(inputs, 0, Memory { work0: &mut work0, work1: &mut work1, mark: &mut [0] }).map(drop)
+}
+
+/// The files of a new job; work buffers and mark begin at 0.
+fn fill(part: &Path, inputs: &Inputs, names: &[String]) -> Result<()> {
+    let Inputs { dst, table, args, samples, .. } = *inputs;
+    let names = names.join("\n");
+    let lists = [bytes(dst), bytes(table), bytes(args), bytes(samples), names.as_bytes()];
+    let job = Description::new(inputs, lists.map(digest));
+    let write = |name: &str, bytes: &[u8]| storage::write(&part.join(name), bytes).at(&part.join(name));
+    for (name, list) in INPUTS.iter().zip(lists) {
+        write(name, list)?;
+    }
+    write(MARK, &0u64.to_le_bytes())?;
+    write(LOCK, b"")?;
+    write(JOB, job.text().as_bytes())?;
+    for name in WORK {
+        let path = part.join(name);
+        let room = || {
+            let file = File::create(&path)?;
+            system::allocate(&file, 16 * (job.width * job.height) as u64)?;
+            file.sync_all()
+        };
+        room().at(&path)?;
+    }
+    storage::sync_folder(part).at(part)
+}
+
+/// An error about a file of the folder under construction, said of the folder that it would have become.
+fn renamed(error: Error, part: &Path, path: &Path) -> Error {
+    match error {
+        Error::System(file, error) => match file.strip_prefix(part) {
+            Ok(name) => Error::System(path.join(name), error),
+            Err(_) => Error::System(file, error),
+        },
+        other => other,
+    }
+}

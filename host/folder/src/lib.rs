@@ -1,0 +1,33 @@
+//! A job kept in a folder, as the command `tray` keeps it: whatever happens to its workers, its machine's power, its disk or
+//! its copies, nothing but the right picture is ever called finished.
+//!
+//! A worker ([`Worker`]) maps the work buffers and the mark into its memory, so that a kill loses nothing: the next worker
+//! of the same boot goes on at the mark. A loss of power loses what was not yet stored, in any order; so before a phase
+//! writes over the picture beneath the one before it, the picture that is whole is stored, and then, in a file of its own,
+//! the position and a digest of the pictures that it rests on: the checkpoint ([`Durable`] says how often). In another
+//! boot, on another mount or in a copy of the folder the mapped mark counts for nothing: the job is taken up at the
+//! checkpoint if the digest fits what the files hold, and otherwise at its beginning.
+//!
+//! For Linux: it asks the kernel for the boot. No dependencies besides the crate `tray`; all unsafe code in src/system.rs.
+#![deny(missing_docs)]
+
+#[cfg(not(all(target_os = "linux", target_pointer_width = "64", target_endian = "little")))]
+compile_error!("a job's lists are kept as 64-bit Linux has them in memory, low byte first");
+
+mod beside;
+mod checkpoint;
+mod description;
+mod digest;
+mod error;
+mod folder;
+mod held;
+mod list;
+mod storage;
+mod system;
+mod worker;
+
+pub use error::{Error, Result};
+pub use folder::{Folder, Lock};
+pub use list::List;
+pub use system::on_storage_failure;
+pub use worker::{Durable, TakenUp, Worker};

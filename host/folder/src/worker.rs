@@ -1,0 +1,159 @@
+//! A worker: holds a job's lock and its mapped lists, makes its calls, and sees to it that the storage always has a checkpoint
+//! from which the job can be taken up.
+
+use crate::checkpoint::{place, Checkpoint, Pictures};
+use crate::error::{At, Error, Result};
+use crate::folder::{Folder, Lock, CHECKPOINT, MARK, MEMORY, WORK};
+use crate::list::List;
+use crate::{held, storage, system};
+use std::fs::OpenOptions;
+use tray::{Inputs, Memory, Progress};
+
+/// How much of a job a loss of power takes back.
+#[derive(Clone, Copy, Debug, PartialEq, Eq)]
+pub enum Durable {
+    /// At most one phase: each picture is stored before the next one is begun.
+    Phase,
+    /// All that was done since its beginning, unless the worker has come to its end: nothing is stored before.
+    End,
+}
+
+/// Where a worker has taken a job up.
+#[derive(Clone, Copy, Debug, PartialEq, Eq)]
+pub enum TakenUp {
+    /// At the mark, as the worker before it left it.
+    Mark,
+    /// At the checkpoint, in another boot, on another mount or in a copy; or at the beginning, where there was none whose
+    /// pictures are there.
+    Checkpoint(u64),
+}
+
+/// A worker of a job. What it has done outlives a kill at any moment.
+pub struct Worker {
+    folder: Folder,
+    durable: Durable,
+    dst: List<u32>,
+    table: List<i64>,
+    args: List<u32>,
+    samples: List<u32>,
+    work: [List<u32>; 2],
+    mark: List<u64>,
+    /// What the storage has.
+    checkpoint: Checkpoint,
+    taken_up: TakenUp,
+    _lock: Lock,
+}
+
+impl Worker {
+    /// Takes a job up. Its inputs must be those that it was made with, and the storage must have room for its work buffers.
+    pub fn new(folder: &Folder, lock: Lock, durable: Durable) -> Result<Self> {
+        // It may have been made anew while this worker waited.
+        let folder = Folder::open(folder.path())?;
+        let (dst, table, args, samples) = (folder.dst()?, folder.table()?, folder.args()?, folder.samples()?);
+        folder.unchanged([dst.bytes(), table.bytes(), args.bytes(), samples.bytes()])?;
+        let work = |k: usize| {
+            let path = folder.at(WORK[k]);
+            let list = List::write(&path, 4 * folder.pixels())?;
+            let file = OpenOptions::new().write(true).open(&path).at(&path)?;
+            // A copy may have holes where the job that it was made of had none.
+            system::allocate(&file, 16 * folder.pixels() as u64).at(&path)?;
+            Ok(list)
+        };
+        let (work, mark) = ([work(0)?, work(1)?], List::write(&folder.at(MARK), 1)?);
+        let checkpoint = folder.checkpoint()?;
+        let taken_up = TakenUp::Mark;
+        let mut worker =
+            Worker { folder, durable, dst, table, args, samples, work, mark, checkpoint, taken_up, _lock: lock };
+        worker.take_up()?;
+        Ok(worker)
+    }
+
+    /// Sees where the job stands. A mark that cannot be trusted is set to the checkpoint before it is called trusted again.
+    fn take_up(&mut self) -> Result<()> {
+        let path = self.folder.path();
+        if held::trusted(path, MEMORY)? {
+            return self.folder.mapped_mark().map(drop);
+        }
+        let Checkpoint { position, .. } = self.checkpoint;
+        if self.mark() != position {
+            self.taken_up = TakenUp::Checkpoint(position);
+        }
+        self.mark.list_mut()[0] = position;
+        match held::here(path, MEMORY)? {
+            Some(here) => storage::replace(path, held::NAME, &here).at(path),
+            None => Ok(()),
+        }
+    }
+
+    /// Where it has taken the job up.
+    pub fn taken_up(&self) -> TakenUp {
+        self.taken_up
+    }
+
+    /// The job's mark.
+    pub fn mark(&self) -> u64 {
+        self.mark.list()[0]
+    }
+
+    /// One call of at most `allowance` stores, within one phase.
+    pub fn call(&mut self, allowance: u64) -> Result<Progress> {
+        let (phase, written) = self.folder.phase(self.mark());
+        let pixels = self.folder.pixels() as u64;
+        if self.mark() < self.folder.total() {
+            self.keep_a_checkpoint(phase * pixels)?;
+        }
+        let inputs = Inputs {
+            width: self.folder.width() as i64,
+            height: self.folder.height() as i64,
+            channels: self.folder.channels() as i64,
+            dst: self.dst.list(),
+            layers: self.folder.layers() as i64,
+            table: self.table.list(),
+            args: self.args.list(),
+            samples: self.samples.list(),
+        };
+        let [work0, work1] = &mut self.work;
+        let memory = Memory { work0: work0.list_mut(), work1: work1.list_mut(), mark: self.mark.list_mut() };
+        tray::job(&inputs, allowance.min(5 * (pixels - written)), memory)
+            .map_err(|error| Error::Refused(self.folder.path().to_path_buf(), error))
+    }
+
+    /// Before a phase writes: a checkpoint within it, not beyond the mark, stays true while it is written, since the phase
+    /// leaves the picture beneath and what it has written as they are; and so does the beginning, which rests on nothing.
+    /// Any other is renewed, or taken back.
+    fn keep_a_checkpoint(&mut self, phase_start: u64) -> Result<()> {
+        match (self.durable, self.checkpoint.position) {
+            (_, position) if phase_start <= position && position <= self.mark() => Ok(()),
+            (Durable::Phase, _) => self.store(),
+            (Durable::End, 0) => Ok(()),
+            (Durable::End, _) => self.write(Checkpoint::START),
+        }
+    }
+
+    /// Stores the pictures that the mark rests on, and then the mark with their digest.
+    fn store(&mut self) -> Result<()> {
+        let (beneath, writing, bytes) = place(self.mark(), self.folder.pixels() as u64);
+        let beneath = beneath.map(|k| &self.work[k]);
+        let writing = &self.work[writing];
+        beneath.map_or(Ok(()), List::sync)?;
+        if bytes != 0 {
+            writing.sync()?;
+        }
+        let pictures = Pictures { beneath: beneath.map_or(&[], List::bytes), written: &writing.bytes()[..bytes] };
+        self.write(Checkpoint::new(self.mark(), &pictures))
+    }
+
+    fn write(&mut self, checkpoint: Checkpoint) -> Result<()> {
+        storage::replace(self.folder.path(), CHECKPOINT, &checkpoint.text()).at(&self.folder.at(CHECKPOINT))?;
+        self.checkpoint = checkpoint;
+        Ok(())
+    }
+
+    /// Ends the worker's part: what it has done is stored when this returns.
+    pub fn stop(mut self) -> Result<()> {
+        if self.checkpoint.position == self.mark() {
+            return Ok(());
+        }
+        self.store()
+    }
+}

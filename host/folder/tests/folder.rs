@@ -1,0 +1,280 @@
+//! Job folders and what happens to them: workers that are gone at any moment, another boot, copies, changed inputs, shared
+//! and damaged files. A worker that is dropped without `stop` leaves what a killed one leaves.
+
+use std::fs::{self, OpenOptions};
+use std::io::{Read, Seek, SeekFrom, Write};
+use std::os::unix::fs::symlink;
+use std::path::{Path, PathBuf};
+use std::thread;
+use std::time::Duration;
+use tray::{Inputs, Layer, Source, Stack};
+use tray_folder::{Durable, Error, Folder, TakenUp, Worker};
+
+const WIDTH: usize = 20;
+const HEIGHT: usize = 13;
+const PIXELS: u64 = (WIDTH * HEIGHT) as u64;
+const LAYERS: usize = 3;
+const TOTAL: u64 = (LAYERS as u64 + 1) * PIXELS;
+
+/// Marks within phases, at their ends and beside them.
+const MARKS: [u64; 9] = [0, 1, PIXELS - 1, PIXELS, PIXELS + 1, 2 * PIXELS + 99, 3 * PIXELS, TOTAL - 1, TOTAL];
+
+/// A new folder for one test's jobs.
+fn room(name: &str) -> PathBuf {
+    let room = PathBuf::from(env!("CARGO_TARGET_TMPDIR")).join(name);
+    let _ = fs::remove_dir_all(&room);
+    fs::create_dir_all(&room).unwrap();
+    room
+}
+
+fn make(path: &Path) -> Folder {
+    let words: Vec<u32> = (0..4 * WIDTH * HEIGHT).map(|n| ((n * 7919 % 1000) as f32 / 1000.0).to_bits()).collect();
+    let source = Source { first: 0, width: WIDTH as i64, height: HEIGHT as i64, channels: 4 };
+    let layer = |name: &str| Layer { offset: (1, 2), ..Layer::new(tray::from_name(name.as_bytes()).unwrap(), source) };
+    let stack = Stack::new(&["over", "plus", "xor"].map(layer));
+    let inputs = Inputs {
+        width: WIDTH as i64,
+        height: HEIGHT as i64,
+        channels: 4,
+        dst: &words,
+        layers: stack.layers(),
+        table: &stack.table,
+        args: &stack.args,
+        samples: &words,
+    };
+    Folder::create(path, &inputs, &["a", "b", "c"].map(String::from)).unwrap()
+}
+
+fn worker(folder: &Folder, durable: Durable) -> Worker {
+    Worker::new(folder, folder.lock(false).unwrap(), durable).unwrap()
+}
+
+/// Calls until the mark is raised by `pixels`, or the job is finished.
+fn go_on(worker: &mut Worker, mut pixels: u64) {
+    while pixels != 0 {
+        let progress = worker.call(5 * pixels).unwrap();
+        pixels -= progress.stores / 5;
+        if progress.finished {
+            return;
+        }
+    }
+}
+
+/// The picture of a job that is run to its end.
+fn finish(folder: &Folder) -> Vec<u32> {
+    let mut last = worker(folder, Durable::Phase);
+    go_on(&mut last, u64::MAX);
+    last.stop().unwrap();
+    folder.finished().unwrap().list().to_vec()
+}
+
+fn copy(from: &Path, to: &Path) -> Folder {
+    fs::create_dir(to).unwrap();
+    for entry in fs::read_dir(from).unwrap().map(Result::unwrap) {
+        fs::copy(entry.path(), to.join(entry.file_name())).unwrap();
+    }
+    Folder::open(to).unwrap()
+}
+
+/// As another boot finds it: the mark is not to be trusted.
+fn another_boot(folder: &Folder) {
+    let held = folder.path().join("held");
+    let text = fs::read_to_string(&held).unwrap();
+    let boot = text.lines().nth(1).unwrap().to_string();
+    fs::write(&held, text.replace(&boot, "boot 00000000-0000-0000-0000-000000000000")).unwrap();
+}
+
+fn change_byte(path: &Path, at: u64) {
+    let mut file = OpenOptions::new().read(true).write(true).open(path).unwrap();
+    let mut byte = [0];
+    file.seek(SeekFrom::Start(at)).unwrap();
+    file.read_exact(&mut byte).unwrap();
+    file.seek(SeekFrom::Start(at)).unwrap();
+    file.write_all(&[byte[0] ^ 1]).unwrap();
+}
+
+fn says<T>(result: Result<T, Error>) -> String {
+    result.map(drop).unwrap_err().to_string()
+}
+
+#[test]
+fn a_worker_that_is_gone_at_any_mark() {
+    let room = room("gone");
+    let whole = finish(&make(&room.join("whole")));
+    for mark in MARKS {
+        for durable in [Durable::Phase, Durable::End] {
+            let folder = make(&room.join(format!("job{mark}{durable:?}")));
+            go_on(&mut worker(&folder, durable), mark);
+            assert_eq!(folder.position().unwrap(), mark);
+            // The next worker of this boot goes on at the mark; in another boot at the last phase, or at the beginning.
+            let elsewhere = copy(folder.path(), &room.join(format!("copy{mark}{durable:?}")));
+            another_boot(&folder);
+            let kept = match durable {
+                Durable::Phase => (mark.saturating_sub(1)) / PIXELS * PIXELS,
+                Durable::End => 0,
+            };
+            assert_eq!(folder.position().unwrap(), kept, "mark {mark}, {durable:?}");
+            assert_eq!(elsewhere.position().unwrap(), kept, "a copy at mark {mark}, {durable:?}");
+            assert!(folder.finished().is_err());
+            let next = worker(&folder, Durable::Phase);
+            assert_eq!(next.taken_up(), if mark == kept { TakenUp::Mark } else { TakenUp::Checkpoint(kept) });
+            drop(next);
+            assert_eq!(folder.position().unwrap(), kept);
+            assert!(finish(&folder) == whole && finish(&elsewhere) == whole, "mark {mark}, {durable:?}");
+        }
+    }
+}
+
+#[test]
+fn a_stop_is_stored_wherever_it_is() {
+    let room = room("stop");
+    for mark in MARKS {
+        for durable in [Durable::Phase, Durable::End] {
+            let folder = make(&room.join(format!("job{mark}{durable:?}")));
+            let mut first = worker(&folder, durable);
+            go_on(&mut first, mark);
+            first.stop().unwrap();
+            another_boot(&folder);
+            assert_eq!(folder.position().unwrap(), mark);
+            assert_eq!(folder.finished().is_ok(), mark == TOTAL);
+        }
+    }
+}
+
+/// A copy that was begun before a phase and ended after it has a checkpoint whose picture it has not.
+#[test]
+fn files_of_different_moments() {
+    let room = room("moments");
+    let folder = make(&room.join("job"));
+    let mut first = worker(&folder, Durable::Phase);
+    go_on(&mut first, 2 * PIXELS + 7);
+    let early = copy(folder.path(), &room.join("early"));
+    assert_eq!(early.position().unwrap(), 2 * PIXELS);
+    go_on(&mut first, PIXELS + 3 * WIDTH as u64);
+    let mixed = copy(folder.path(), &room.join("mixed"));
+    assert_eq!(mixed.position().unwrap(), 3 * PIXELS);
+    fs::copy(early.path().join("checkpoint"), mixed.path().join("checkpoint")).unwrap();
+    assert_eq!(mixed.position().unwrap(), 0);
+    go_on(&mut first, u64::MAX);
+    first.stop().unwrap();
+    for folder in [early, mixed] {
+        assert_eq!(finish(&folder), Folder::open(&room.join("job")).unwrap().finished().unwrap().list());
+    }
+}
+
+#[test]
+fn a_finished_picture_that_was_damaged_is_not_called_finished() {
+    let room = room("damaged");
+    let folder = make(&room.join("job"));
+    let whole = finish(&folder);
+    let elsewhere = copy(folder.path(), &room.join("copy"));
+    assert_eq!(elsewhere.finished().unwrap().list(), whole);
+    for name in ["work1", "checkpoint", "mark"] {
+        let damaged = copy(folder.path(), &room.join(name));
+        change_byte(&damaged.path().join(name), 5);
+        assert_eq!(damaged.finished().is_ok(), name == "mark", "{name}");
+        assert_eq!(finish(&damaged), whole);
+    }
+    fs::remove_file(elsewhere.path().join("checkpoint")).unwrap();
+    assert_eq!(elsewhere.position().unwrap(), 0);
+}
+
+#[test]
+fn changed_inputs() {
+    let room = room("changed");
+    let folder = make(&room.join("job"));
+    go_on(&mut worker(&folder, Durable::Phase), 300);
+    for name in ["dst", "table", "args", "samples"] {
+        let path = folder.path().join(name);
+        change_byte(&path, 40);
+        let said = says(Worker::new(&folder, folder.lock(false).unwrap(), Durable::Phase));
+        assert!(said.starts_with(&format!("{}: changed since the job was made", path.display())), "{said}");
+        change_byte(&path, 40);
+    }
+    assert_eq!(folder.position().unwrap(), 300);
+    finish(&folder);
+}
+
+#[test]
+fn two_names_of_one_file() {
+    let room = room("shared");
+    for (n, (one, other)) in
+        [("work0", "work1"), ("dst", "work0"), ("work1", "samples"), ("mark", "lock")].iter().enumerate()
+    {
+        for hard in [false, true] {
+            let path = room.join(format!("job{n}{hard}"));
+            make(&path);
+            fs::remove_file(path.join(other)).unwrap();
+            match hard {
+                true => fs::hard_link(path.join(one), path.join(other)).unwrap(),
+                false => symlink(one, path.join(other)).unwrap(),
+            }
+            assert!(says(Folder::open(&path)).contains(" are one file, and a job's lists share no memory"));
+        }
+    }
+}
+
+#[test]
+fn a_damaged_description() {
+    let room = room("description");
+    let path = room.join("job");
+    make(&path);
+    let text = fs::read_to_string(path.join("job")).unwrap();
+    for channels in ["0", "2", "5", "4 4", "x", "99999999999999999999"] {
+        fs::write(path.join("job"), text.replacen("20 13 4", &format!("20 13 {channels}"), 1)).unwrap();
+        let said = says(Folder::open(&path));
+        assert!(said.starts_with(&format!("{}: damaged: ", path.join("job").display())), "{said}");
+    }
+    fs::write(path.join("job"), b"\xff\xfe").unwrap();
+    assert!(says(Folder::open(&path)).ends_with(": not a job of edition tray-job-2"));
+    fs::remove_file(path.join("job")).unwrap();
+    assert_eq!(says(Folder::open(&path)), format!("{}: no job folder", path.display()));
+}
+
+#[test]
+fn a_mark_beyond_the_end() {
+    let room = room("beyond");
+    let folder = make(&room.join("job"));
+    go_on(&mut worker(&folder, Durable::Phase), 300);
+    fs::write(folder.path().join("mark"), (TOTAL + 1).to_le_bytes()).unwrap();
+    assert!(says(folder.position()).contains("refused: 10 MARK"));
+    assert!(says(Worker::new(&folder, folder.lock(false).unwrap(), Durable::Phase)).contains("refused: 10 MARK"));
+    fs::write(folder.path().join("mark"), [0; 7]).unwrap();
+    assert!(says(folder.position()).ends_with("mark: has not 8 bytes"));
+}
+
+#[test]
+fn one_worker_at_a_time() {
+    let room = room("lock");
+    let folder = make(&room.join("job"));
+    let first = folder.lock(false).unwrap();
+    assert!(folder.has_worker().unwrap());
+    assert!(matches!(folder.lock(false), Err(Error::Busy(_))));
+    // Whoever waits for a job that is removed and made again gets the lock of the new one.
+    let waiting = folder.clone();
+    let waits = thread::spawn(move || waiting.lock(true).unwrap());
+    thread::sleep(Duration::from_millis(100));
+    fs::remove_dir_all(folder.path()).unwrap();
+    make(folder.path());
+    drop(first);
+    let second = waits.join().unwrap();
+    assert!(folder.has_worker().unwrap());
+    drop(second);
+    assert!(!folder.has_worker().unwrap());
+    folder.lock(true).unwrap();
+}
+
+#[test]
+fn a_folder_that_exists_and_what_killed_makers_leave() {
+    let room = room("make");
+    let left = room.join(".tray-1-0");
+    fs::create_dir(&left).unwrap();
+    fs::write(left.join("dst"), b"part").unwrap();
+    let not_ours = room.join(".tray-2-0");
+    fs::create_dir(&not_ours).unwrap();
+    fs::write(not_ours.join("notes"), b"mine").unwrap();
+    fs::write(room.join(".tray-3"), b"mine").unwrap();
+    make(&room.join("job"));
+    assert!(!left.exists() && not_ours.join("notes").exists() && room.join(".tray-3").exists());
+    assert!(fs::read_dir(&room).unwrap().count() == 3, "something is left");
+}
