@@ -70,8 +70,10 @@ fn run(path: &Path, mut words: impl Iterator<Item = String>) -> Result<u8, Box<d
     if let TakenUp::Checkpoint(position) = worker.taken_up() {
         println!("taken up at {position}");
     }
+    let mut stores = 0;
     let finished = loop {
         let progress = worker.call(left)?;
+        stores += progress.stores;
         left -= progress.stores;
         if progress.finished || progress.stores == 0 || left == 0 {
             break progress.finished;
@@ -79,7 +81,8 @@ fn run(path: &Path, mut words: impl Iterator<Item = String>) -> Result<u8, Box<d
     };
     let mark = worker.mark();
     worker.stop()?;
-    println!("{} at {mark} of {}", if finished { "finished" } else { "stopped" }, folder.total());
+    let how = if finished { "finished" } else { "stopped" };
+    println!("{}: {stores} stores, {how} at {mark} of {}", path.display(), folder.total());
     Ok(if finished { 0 } else { 3 })
 }
 

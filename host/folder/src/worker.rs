@@ -14,7 +14,7 @@ use tray::{Inputs, Memory, Progress};
 pub enum Durable {
     /// At most one phase: each picture is stored before the next one is begun.
     Phase,
-    /// All that was done since its beginning, unless the worker has come to its end: nothing is stored before.
+    /// All that was done, if the worker has not come to its end: nothing is stored before.
     End,
 }
 
@@ -60,6 +60,8 @@ impl Worker {
             Ok(list)
         };
         let (work, mark) = ([work(0)?, work(1)?], List::write(&folder.at(MARK), 1)?);
+        // A worker that was killed may have left a checkpoint whose name the storage has not yet.
+        storage::sync_folder(folder.path()).at(folder.path())?;
         let checkpoint = folder.checkpoint()?;
         let taken_up = TakenUp::Mark;
         let mut worker =
@@ -119,14 +121,13 @@ impl Worker {
     }
 
     /// Before a phase writes: a checkpoint within it, not beyond the mark, stays true while it is written, since the phase
-    /// leaves the picture beneath and what it has written as they are; and so does the beginning, which rests on nothing.
-    /// Any other is renewed, or taken back.
+    /// leaves the picture beneath and what it has written as they are. Any other is renewed; where it is not, its digest no
+    /// longer fits when the phase has written over its picture.
     fn keep_a_checkpoint(&mut self, phase_start: u64) -> Result<()> {
-        match (self.durable, self.checkpoint.position) {
-            (_, position) if phase_start <= position && position <= self.mark() => Ok(()),
-            (Durable::Phase, _) => self.store(),
-            (Durable::End, 0) => Ok(()),
-            (Durable::End, _) => self.write(Checkpoint::START),
+        let Checkpoint { position, .. } = self.checkpoint;
+        match self.durable {
+            Durable::Phase if position < phase_start || self.mark() < position => self.store(),
+            _ => Ok(()),
         }
     }
 
@@ -140,13 +141,8 @@ impl Worker {
             writing.sync()?;
         }
         let pictures = Pictures { beneath: beneath.map_or(&[], List::bytes), written: &writing.bytes()[..bytes] };
-        self.write(Checkpoint::new(self.mark(), &pictures))
-    }
-
-    fn write(&mut self, checkpoint: Checkpoint) -> Result<()> {
-        storage::replace(self.folder.path(), CHECKPOINT, &checkpoint.text()).at(&self.folder.at(CHECKPOINT))?;
-        self.checkpoint = checkpoint;
-        Ok(())
+        self.checkpoint = Checkpoint::new(self.mark(), &pictures);
+        storage::replace(self.folder.path(), CHECKPOINT, &self.checkpoint.text()).at(&self.folder.at(CHECKPOINT))
     }
 
     /// Ends the worker's part: what it has done is stored when this returns.
