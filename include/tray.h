@@ -58,6 +58,21 @@
 extern "C" {
 #endif
 
+/* The version of this interface, which is the Rust crate's too. */
+#define TRAY_VERSION_MAJOR 0
+#define TRAY_VERSION_MINOR 1
+#define TRAY_VERSION_PATCH 0
+#define TRAY_VERSION "0.1.0"
+
+/* Limits. What lies beyond is refused under the number beside it. */
+enum tray_limit {
+    TRAY_OPERATORS = 70,        /* 3: operators are 0 to 69 */
+    TRAY_MAX_LAYERS = 16,       /* 1 */
+    TRAY_MAX_SIDE = 2048,       /* 2 for a destination, 7 for a source */
+    TRAY_MAX_OFFSET = 1000000,  /* 5: right or down, and as far to the left or up */
+    TRAY_MAX_ARGUMENTS = 4      /* 8: words of `args` a layer, of which TRAY_COLUMN_COUNT are read */
+};
+
 enum tray_fault {
     TRAY_DONE = 0,
     TRAY_STACK = 1,
@@ -75,7 +90,7 @@ enum tray_fault {
 
 /* The layer table: ten numbers a layer, the lowest layer first. */
 enum tray_column {
-    TRAY_COLUMN_OPERATOR = 0,   /* from tray_from_name */
+    TRAY_COLUMN_OPERATOR = 0,   /* enum tray_operator, or from tray_from_name */
     TRAY_COLUMN_GRAVITY = 1,    /* enum tray_gravity */
     TRAY_COLUMN_RIGHT = 2,      /* the offset from there, in pixels */
     TRAY_COLUMN_DOWN = 3,
@@ -86,6 +101,92 @@ enum tray_column {
     TRAY_COLUMN_CHANNELS = 8,
     TRAY_COLUMN_COUNT = 9,      /* how many of the layer's four arguments are given; the others are not read */
     TRAY_COLUMNS = 10
+};
+
+/* The operators; the command `tray operators` says what each one does. Those with arguments, and the defaults in brackets,
+ * S and D being a colour of the source and of the destination:
+ *
+ *   mathematics  factor of S x D (0); factor of S (0); factor of D (0); what is added (0)
+ *   blend        percent of the source (50); percent of the destination (100 less the first argument)
+ *   dissolve     percent of the source's alpha (50); percent of the destination's alpha (100)
+ *   changemask   how far apart two samples may lie and count as equal (0)
+ *   threshold    least difference that moves a colour (0.05); part of the difference by which it moves (1)
+ *   displace     the place read lies (red - 1/2) x X to the right (20); and (green - 1/2) x Y down (the first argument)
+ *   distort      the column read is red x X (20); the row read is green x Y (the first argument)
+ *   modulate     percent of the effect on lightness (100); percent of the effect on saturation (100)
+ *
+ * An argument that is missing or not finite counts as its default; mathematics takes one that is not finite as it is. */
+enum tray_operator {
+    TRAY_OP_OVER = 0,
+    TRAY_OP_IN = 1,
+    TRAY_OP_OUT = 2,
+    TRAY_OP_ATOP = 3,
+    TRAY_OP_XOR = 4,
+    TRAY_OP_PLUS = 5,
+    TRAY_OP_MULTIPLY = 6,
+    TRAY_OP_SCREEN = 7,
+    TRAY_OP_OVERLAY = 8,
+    TRAY_OP_DARKEN = 9,
+    TRAY_OP_LIGHTEN = 10,
+    TRAY_OP_DIFFERENCE = 11,
+    TRAY_OP_HARD_LIGHT = 12,
+    TRAY_OP_SOFT_LIGHT = 13,
+    TRAY_OP_COLOR_DODGE = 14,
+    TRAY_OP_COLOR_BURN = 15,
+    TRAY_OP_CLEAR = 16,
+    TRAY_OP_SRC = 17,
+    TRAY_OP_DST = 18,
+    TRAY_OP_DST_OVER = 19,
+    TRAY_OP_DST_IN = 20,
+    TRAY_OP_DST_OUT = 21,
+    TRAY_OP_DST_ATOP = 22,
+    TRAY_OP_MINUS_DST = 23,
+    TRAY_OP_MINUS_SRC = 24,
+    TRAY_OP_DIVIDE_DST = 25,
+    TRAY_OP_DIVIDE_SRC = 26,
+    TRAY_OP_MODULUS_ADD = 27,
+    TRAY_OP_MODULUS_SUBTRACT = 28,
+    TRAY_OP_EXCLUSION = 29,
+    TRAY_OP_LINEAR_BURN = 30,
+    TRAY_OP_LINEAR_DODGE = 31,
+    TRAY_OP_LINEAR_LIGHT = 32,
+    TRAY_OP_VIVID_LIGHT = 33,
+    TRAY_OP_PIN_LIGHT = 34,
+    TRAY_OP_HARD_MIX = 35,
+    TRAY_OP_PEGTOP_LIGHT = 36,
+    TRAY_OP_SOFT_BURN = 37,
+    TRAY_OP_SOFT_DODGE = 38,
+    TRAY_OP_STAMP = 39,
+    TRAY_OP_FREEZE = 40,
+    TRAY_OP_REFLECT = 41,
+    TRAY_OP_NEGATE = 42,
+    TRAY_OP_INTERPOLATE = 43,   /* refused: 4 CURVE */
+    TRAY_OP_MATHEMATICS = 44,
+    TRAY_OP_BLEND = 45,
+    TRAY_OP_DISSOLVE = 46,
+    TRAY_OP_RMSE = 47,
+    TRAY_OP_DARKEN_INTENSITY = 48,
+    TRAY_OP_LIGHTEN_INTENSITY = 49,
+    TRAY_OP_HUE = 50,
+    TRAY_OP_SATURATE = 51,
+    TRAY_OP_LUMINIZE = 52,
+    TRAY_OP_COLORIZE = 53,
+    TRAY_OP_COPY_RED = 54,
+    TRAY_OP_COPY_GREEN = 55,
+    TRAY_OP_COPY_BLUE = 56,
+    TRAY_OP_COPY_ALPHA = 57,
+    TRAY_OP_COPY_CYAN = 58,
+    TRAY_OP_COPY_MAGENTA = 59,
+    TRAY_OP_COPY_YELLOW = 60,
+    TRAY_OP_COPY_BLACK = 61,
+    TRAY_OP_CHANGE_MASK = 62,
+    TRAY_OP_BUMPMAP = 63,
+    TRAY_OP_THRESHOLD = 64,
+    TRAY_OP_DISPLACE = 65,
+    TRAY_OP_DISTORT = 66,
+    TRAY_OP_BLUR = 67,          /* refused: 4 CURVE */
+    TRAY_OP_INTENSITY = 68,
+    TRAY_OP_MODULATE = 69
 };
 
 /* Where the source lies before the offset: its own corner, side or middle on the destination's. A middle that falls
@@ -112,8 +213,8 @@ enum tray_flag {
     TRAY_ALPHA = 32
 };
 
-/* The operator that a name spells: 0 and its number, 0 to 69, in *operator; or 3, and *operator as it was. '-', '_' and
- * space are dropped, A to Z lowered; the rest must be one of the 70 names or 13 aliases. `name` has no ending 0.
+/* The operator that a name spells: 0 and its number, 0 to 69, in *operator_number; or 3, and *operator_number as it was.
+ * '-', '_' and space are dropped, A to Z lowered; the rest must be one of the 70 names or 13 aliases. `name` has no ending 0.
  * Interpolate (43) and Blur (67) are known names, of operators that a composition refuses as 4. */
 uint64_t tray_from_name(const uint8_t *name, size_t name_length, uint64_t *operator_number);
 
