@@ -2,7 +2,7 @@
 
 use oracle::composite::{Composite, CompositeOp};
 use oracle::deep::FloatImage;
-use tray::{Inputs, Layer, Source, Stack};
+use tray::{Inputs, Layer, Operator, Source, Stack};
 
 /// Numbers that look random and are the same in each run.
 pub struct Numbers(u64);
@@ -71,7 +71,7 @@ impl Pair {
 
     /// One layer of the operator over the whole destination.
     pub fn stack(&self, operator: usize) -> Stack {
-        Stack::new(&[Layer::new(operator as u64, self.source())])
+        Stack::new(&[Layer::new(Operator::ALL[operator], self.source())])
     }
 }
 

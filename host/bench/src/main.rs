@@ -16,14 +16,13 @@ use inputs::{Pair, composite};
 use oracle::deep::FloatImage;
 use std::hint::black_box;
 use std::process::Command;
-use tray::{Layer, Memory, Stack};
+use tray::{Layer, Memory, Operator, Stack};
 
-const REFUSED: [usize; 2] = [43, 67];
 const NAN: u32 = 0x7fc0_0000;
 
 /// The numbers of the 68 operators.
 fn carried() -> Vec<usize> {
-    (0..tray::OPERATORS as usize).filter(|n| !REFUSED.contains(n)).collect()
+    Operator::ALL.iter().filter(|operator| operator.carried()).map(|operator| operator.number() as usize).collect()
 }
 
 /// The shortest of some runs, in seconds.
@@ -191,11 +190,13 @@ fn operators(sides: &[usize]) {
 
 /// A job of sixteen layers on growing pictures.
 fn stacks(sides: &[usize]) {
+    use Operator::{Difference, In, Multiply, Over, Overlay, Plus, Screen, Xor};
     println!("\n| 16 layers, side | pixels | ms | ns a pixel and layer |");
     println!("|---:|---:|---:|---:|");
     for side in sides {
         let pair = Pair::new(*side);
-        let layer = |k: usize| Layer::new([0, 6, 7, 8, 1, 4, 5, 11][k % 8], pair.source());
+        let layer =
+            |k: usize| Layer::new([Over, Multiply, Screen, Overlay, In, Xor, Plus, Difference][k % 8], pair.source());
         let stack = Stack::new(&(0..16).map(layer).collect::<Vec<_>>());
         let mut work = Work::new(&pair);
         let (rounds, batch) = effort(16 * pair.pixels());

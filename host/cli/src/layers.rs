@@ -7,7 +7,7 @@
 use anyhow::{bail, ensure, Context, Result};
 use std::path::PathBuf;
 use std::str::FromStr;
-use tray::{Flags, Gravity, Layer, Source, ARGUMENTS};
+use tray::{Layer, Operator, Source, ARGUMENTS};
 
 /// A layer, its operator as it was spelled, and the file of its source.
 #[derive(Debug, PartialEq)]
@@ -17,30 +17,12 @@ pub struct Line {
     pub picture: PathBuf,
 }
 
-const GRAVITIES: [(&str, Gravity); 10] = [
-    ("none", Gravity::None),
-    ("northwest", Gravity::NorthWest),
-    ("north", Gravity::North),
-    ("northeast", Gravity::NorthEast),
-    ("west", Gravity::West),
-    ("centre", Gravity::Centre),
-    ("east", Gravity::East),
-    ("southwest", Gravity::SouthWest),
-    ("south", Gravity::South),
-    ("southeast", Gravity::SouthEast),
-];
-
 fn numbers<T: FromStr>(list: &str) -> Result<Vec<T>> {
     let number = |text: &str| text.parse().ok().with_context(|| format!("`{text}` is no number here"));
     if list.is_empty() {
         return Ok(vec![]);
     }
     list.split(',').map(number).collect()
-}
-
-fn gravity(name: &str) -> Result<Gravity> {
-    let known = GRAVITIES.iter().find(|(known, _)| name == *known);
-    known.map(|(_, gravity)| *gravity).with_context(|| format!("no gravity {name}"))
 }
 
 fn channels(letters: &str) -> Result<[bool; 4]> {
@@ -56,7 +38,7 @@ fn option(layer: &mut Layer, word: &str) -> Result<()> {
             [right, down] => layer.offset = (right, down),
             _ => bail!("at has two numbers: right,down"),
         },
-        Some(("gravity", name)) => layer.gravity = gravity(name)?,
+        Some(("gravity", name)) => layer.gravity = name.parse()?,
         Some(("channels", letters)) => layer.flags.channels = channels(letters)?,
         Some(("args", list)) => layer.arguments = numbers(list)?,
         _ => bail!("{word} is no option of a layer"),
@@ -71,9 +53,9 @@ impl FromStr for Line {
         let mut words = line.split_ascii_whitespace();
         let name = words.next().context("a layer begins with its operator")?;
         let picture = words.next().context("a layer names its picture after its operator")?.into();
-        let operator = tray::from_name(name.as_bytes()).with_context(|| name.to_string())?;
+        let operator: Operator = name.parse().with_context(|| name.to_string())?;
         let nowhere = Source { first: 0, width: 0, height: 0, channels: 4 };
-        let mut layer = Layer { flags: Flags::ALL_CHANNELS, ..Layer::new(operator, nowhere) };
+        let mut layer = Layer::new(operator, nowhere);
         words.try_for_each(|word| option(&mut layer, word))?;
         ensure!(layer.arguments.len() <= ARGUMENTS, tray::Fault::Arguments);
         Ok(Line { layer, operator: name.to_string(), picture })
@@ -83,12 +65,14 @@ impl FromStr for Line {
 #[cfg(test)]
 mod tests {
     use super::*;
+    use tray::{Flags, Gravity};
 
     #[test]
     fn a_whole_line() {
         let line: Line = "Soft-Light a.png at=3,-2 gravity=centre channels=rb args=0.5,2 tile".parse().unwrap();
         assert_eq!(line.picture, PathBuf::from("a.png"));
-        assert_eq!((line.layer.operator, line.layer.offset, line.layer.gravity), (13, (3, -2), Gravity::Centre));
+        let Layer { operator, offset, gravity, .. } = line.layer;
+        assert_eq!((operator, offset, gravity), (Operator::SoftLight, (3, -2), Gravity::Centre));
         assert_eq!(line.layer.flags, Flags { tile: true, overlay: false, channels: [true, false, true, false] });
         assert_eq!(line.layer.arguments, [0.5, 2.0]);
     }

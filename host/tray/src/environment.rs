@@ -5,6 +5,7 @@
 //! exceptions are not looked for: a trap ends the process as a kill does, and changes no sample.
 
 use crate::layer::{Inputs, ARGUMENTS, COLUMNS};
+use crate::operator::Operator;
 use crate::raw;
 use std::error::Error;
 use std::fmt;
@@ -30,9 +31,9 @@ impl fmt::Display for Environment {
 
 impl Error for Environment {}
 
-/// One pixel on another by Plus, all channels written: the operator's number, gravity, offsets, flags, then the source's
+/// One pixel on another by Plus, all channels written: the operator, gravity, offsets, flags, then the source's
 /// start, sides and channels, and no argument.
-const PLUS: [i64; COLUMNS] = [5, 0, 0, 0, 60, 0, 1, 1, 4, 0];
+const PLUS: [i64; COLUMNS] = [Operator::Plus as i64, 0, 0, 0, 60, 0, 1, 1, 4, 0];
 
 /// The words of 1, and of a half and the two floats after it, which lie 2^-24 apart.
 const ONE: u32 = 0x3f80_0000;

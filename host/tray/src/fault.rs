@@ -31,6 +31,7 @@ pub enum Fault {
 }
 
 impl Fault {
+    /// All faults, in the order of their numbers.
     pub const ALL: [Fault; 11] = [
         Fault::Stack,
         Fault::Tray,
@@ -45,10 +46,12 @@ impl Fault {
         Fault::Narrow,
     ];
 
+    /// The library's number, 1 to 11.
     pub fn number(self) -> u64 {
         self as u64
     }
 
+    /// Document 01's word for it.
     pub fn word(self) -> &'static str {
         match self {
             Fault::Stack => "STACK",
@@ -107,7 +110,9 @@ impl std::error::Error for Fault {}
 /// A refused job call: the fault, and the layer that has it, counted from 0 (0 where none is concerned).
 #[derive(Clone, Copy, Debug, PartialEq, Eq, Hash)]
 pub struct Refusal {
+    /// The first fault.
     pub fault: Fault,
+    /// The layer at fault, 0 where none is concerned.
     pub layer: u64,
 }
 
@@ -127,7 +132,9 @@ impl std::error::Error for Refusal {}
 /// of the thread's floating-point environment.
 #[derive(Clone, Copy, Debug, PartialEq, Eq, Hash)]
 pub enum Error<R> {
+    /// The library's answer.
     Refused(R),
+    /// What the thread's arithmetic does otherwise.
     Environment(Environment),
 }
 

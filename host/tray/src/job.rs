@@ -9,7 +9,9 @@ use crate::raw;
 /// An accepted call: the stores it made, and whether the job is finished.
 #[derive(Clone, Copy, Debug, PartialEq, Eq)]
 pub struct Progress {
+    /// Five a pixel: four samples and the mark.
     pub stores: u64,
+    /// The picture stands in work buffer (layers mod 2).
     pub finished: bool,
 }
 

@@ -1,26 +1,46 @@
 //! A job's inputs. The fields are the library's own numbers, signed and unchecked: the library decides what it refuses.
 
-/// Numbers a layer in the table, and arguments a layer.
+use crate::gravity::Gravity;
+use crate::operator::Operator;
+
+/// Numbers a layer in the table.
 pub const COLUMNS: usize = 10;
+
+/// Arguments a layer; fewer may count.
 pub const ARGUMENTS: usize = 4;
 
-/// The most layers, the longest side, the count of operators (two of which are refused).
+/// The most layers of a job.
 pub const LAYERS: usize = 16;
+
+/// The longest side of a destination or a source.
 pub const SIDE: u64 = 2048;
-pub const OPERATORS: u64 = 70;
+
+/// The largest offset, to either side.
+pub const OFFSET: i64 = 1_000_000;
 
 /// Which channels a layer writes, whether its source repeats, and whether it is used off its source.
 #[derive(Clone, Copy, Debug, PartialEq, Eq)]
 pub struct Flags {
+    /// The source repeats in all directions.
     pub tile: bool,
+    /// Off the source the operator runs on a transparent black pixel; without it the destination's is kept.
     pub overlay: bool,
-    /// Red, green, blue, alpha.
+    /// Red, green, blue, alpha: those that are written. The others keep the destination's bits.
     pub channels: [bool; 4],
 }
 
+/// All channels, no tile, no overlay.
+impl Default for Flags {
+    fn default() -> Self {
+        Flags::ALL_CHANNELS
+    }
+}
+
 impl Flags {
+    /// All channels, no tile, no overlay.
     pub const ALL_CHANNELS: Flags = Flags { tile: false, overlay: false, channels: [true; 4] };
 
+    /// The table's number, 0 to 63.
     pub fn number(self) -> i64 {
         let [red, green, blue, alpha] = self.channels;
         let bits = [self.tile, self.overlay, red, green, blue, alpha];
@@ -28,51 +48,44 @@ impl Flags {
     }
 }
 
-/// Where a source is placed before its offsets count; the discriminants are the table's numbers.
-#[derive(Clone, Copy, Debug, PartialEq, Eq)]
-pub enum Gravity {
-    None = 0,
-    NorthWest = 1,
-    North = 2,
-    NorthEast = 3,
-    West = 4,
-    Centre = 5,
-    East = 6,
-    SouthWest = 7,
-    South = 8,
-    SouthEast = 9,
-}
-
-/// A source picture's place in the samples.
+/// A source picture's place in the samples. It has no default: a source is a picture that the host has.
 #[derive(Clone, Copy, Debug, PartialEq, Eq)]
 pub struct Source {
+    /// Its first sample in [`Inputs::samples`].
     pub first: i64,
+    /// Pixels in a row.
     pub width: i64,
+    /// Rows.
     pub height: i64,
+    /// 1 is gray, 3 are red, green and blue, 4 have alpha too.
     pub channels: i64,
 }
 
+/// One layer of a job, or of a single composition.
 #[derive(Clone, Debug, PartialEq)]
 pub struct Layer {
-    /// From [`crate::from_name`].
-    pub operator: u64,
+    /// What is computed of source and destination.
+    pub operator: Operator,
+    /// Where the source lies before the offset.
     pub gravity: Gravity,
-    /// Right and down.
+    /// Right and down, in pixels.
     pub offset: (i64, i64),
+    /// What is written, and where.
     pub flags: Flags,
+    /// The source's place in the samples.
     pub source: Source,
-    /// At most four are kept; the library refuses a layer with more.
+    /// Those of [`Operator::arguments`], as many as are given. At most four are kept; the library refuses a layer with more.
     pub arguments: Vec<f32>,
 }
 
 impl Layer {
     /// A layer whose source lies at the destination's upper left corner.
-    pub fn new(operator: u64, source: Source) -> Self {
+    pub fn new(operator: Operator, source: Source) -> Self {
         Layer {
             operator,
-            gravity: Gravity::None,
+            gravity: Gravity::default(),
             offset: (0, 0),
-            flags: Flags::ALL_CHANNELS,
+            flags: Flags::default(),
             source,
             arguments: vec![],
         }
@@ -81,8 +94,8 @@ impl Layer {
     fn row(&self) -> [i64; COLUMNS] {
         let Source { first, width, height, channels } = self.source;
         [
-            self.operator as i64,
-            self.gravity as i64,
+            self.operator.number() as i64,
+            self.gravity.number() as i64,
             self.offset.0,
             self.offset.1,
             self.flags.number(),
@@ -106,11 +119,14 @@ impl Layer {
 /// Layers as the library reads them, the lowest first.
 #[derive(Clone, Debug, Default, PartialEq)]
 pub struct Stack {
+    /// Ten numbers a layer ([`COLUMNS`]).
     pub table: Vec<i64>,
+    /// The bits of four arguments a layer ([`ARGUMENTS`]).
     pub args: Vec<u32>,
 }
 
 impl Stack {
+    /// The layers' rows and arguments.
     pub fn new(layers: &[Layer]) -> Self {
         Stack {
             table: layers.iter().flat_map(Layer::row).collect(),
@@ -118,6 +134,7 @@ impl Stack {
         }
     }
 
+    /// The count of layers.
     pub fn layers(&self) -> i64 {
         (self.table.len() / COLUMNS) as i64
     }
@@ -126,14 +143,19 @@ impl Stack {
 /// What a job, or a single composition, is about. It is lent for reading: no call writes it.
 #[derive(Clone, Copy, Debug)]
 pub struct Inputs<'a> {
-    /// The destination: sides, channels (1, 3 or 4), samples row by row.
+    /// The destination's pixels in a row.
     pub width: i64,
+    /// The destination's rows.
     pub height: i64,
+    /// The destination's channels: 1, 3 or 4.
     pub channels: i64,
+    /// The destination's samples, row by row.
     pub dst: &'a [u32],
     /// The count of layers; a single composition has one and does not read it.
     pub layers: i64,
+    /// The layers' numbers, as [`Stack::table`].
     pub table: &'a [i64],
+    /// The layers' arguments, as [`Stack::args`].
     pub args: &'a [u32],
     /// The sources' samples.
     pub samples: &'a [u32],

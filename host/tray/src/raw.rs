@@ -1,9 +1,11 @@
-//! The C interface (include/tray.h), call for call, over borrowed lists and with the library's own numbers as answers. All
-//! unsafe code of the crate is here: each function hands the pointers and lengths of borrowed lists to the library, which
-//! reads and writes only these, and keeps none of them.
+//! The C interface (include/tray.h), call for call, over borrowed lists and with the library's own numbers as answers; and
+//! samples seen as words and words as samples. All unsafe code of the crate is here: each call hands the pointers and
+//! lengths of borrowed lists to the library, which reads and writes only these, and keeps none of them.
 
 use crate::layer::Inputs;
 use crate::memory::Memory;
+use std::mem::{align_of, size_of};
+use std::slice;
 
 extern "C" {
     fn tray_from_name(name: *const u8, name_length: usize, operator: *mut u64) -> u64;
@@ -72,23 +74,27 @@ macro_rules! with_inputs {
     };
 }
 
+/// `tray_from_name`: the answer is 0 or 3; the operator's number is written only with 0.
 pub fn from_name(name: &[u8], operator: &mut u64) -> u64 {
     unsafe { tray_from_name(name.as_ptr(), name.len(), operator) }
 }
 
+/// `tray_compose`.
 pub fn compose(inputs: &Inputs, out: &mut [u32]) -> u64 {
     unsafe { with_inputs!(tray_compose, inputs; out.as_mut_ptr(), out.len()) }
 }
 
+/// `tray_narrow`.
 pub fn narrow(wanted: i64, input: &[u32], out: &mut [u32]) -> u64 {
     unsafe { tray_narrow(wanted, input.as_ptr(), input.len(), out.as_mut_ptr(), out.len()) }
 }
 
+/// `tray_narrow_bytes`.
 pub fn narrow_bytes(wanted: i64, input: &[u32], out: &mut [u8]) -> u64 {
     unsafe { tray_narrow_bytes(wanted, input.as_ptr(), input.len(), out.as_mut_ptr(), out.len()) }
 }
 
-/// The answer is the fault's number; the other three are written as include/tray.h says.
+/// `tray_job`: the answer is the fault's number; the other three are written as include/tray.h says.
 pub fn job(
     inputs: &Inputs,
     allowance: u64,
@@ -108,4 +114,28 @@ pub fn job(
             layer, stores, finished
         )
     }
+}
+
+// `f32` and `u32` have one size and one alignment, and every pattern of bits is a value of both: a list of one is a list of
+// the other for as long as it is borrowed. No sample is moved or computed with, so that a NaN keeps its bits.
+const _: () = assert!(align_of::<f32>() == align_of::<u32>() && size_of::<f32>() == size_of::<u32>());
+
+/// Samples as the library's words: the same memory, all bits kept.
+pub fn words(samples: &[f32]) -> &[u32] {
+    unsafe { slice::from_raw_parts(samples.as_ptr().cast(), samples.len()) }
+}
+
+/// Samples lent as words to be written: the same memory, all bits kept.
+pub fn words_mut(samples: &mut [f32]) -> &mut [u32] {
+    unsafe { slice::from_raw_parts_mut(samples.as_mut_ptr().cast(), samples.len()) }
+}
+
+/// Words as samples: the same memory, all bits kept.
+pub fn floats(words: &[u32]) -> &[f32] {
+    unsafe { slice::from_raw_parts(words.as_ptr().cast(), words.len()) }
+}
+
+/// Words lent as samples to be written: the same memory, all bits kept.
+pub fn floats_mut(words: &mut [u32]) -> &mut [f32] {
+    unsafe { slice::from_raw_parts_mut(words.as_mut_ptr().cast(), words.len()) }
 }

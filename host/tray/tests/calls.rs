@@ -1,15 +1,7 @@
 //! The crate on the library that it links: document 01's trial values, each fault, and a job cut at every store.
 
-use tray::{compose, from_name, job, narrow, narrow_bytes, phase, total};
-use tray::{Error, Fault, Flags, Gravity, Inputs, Layer, Memory, Progress, Refusal, Source, Stack};
-
-fn words(values: &[f32]) -> Vec<u32> {
-    values.iter().map(|v| v.to_bits()).collect()
-}
-
-fn operator(name: &str) -> u64 {
-    from_name(name.as_bytes()).expect(name)
-}
+use tray::{compose, floats, floats_mut, from_name, job, narrow, narrow_bytes, phase, total, words, words_mut};
+use tray::{Error, Fault, Flags, Gravity, Inputs, Layer, Memory, Operator, Progress, Refusal, Source, Stack};
 
 /// A source of `width` × 1 pixels of four channels at the front of the samples.
 fn line(width: i64) -> Source {
@@ -30,17 +22,17 @@ fn inputs<'a>(width: i64, dst: &'a [u32], stack: &'a Stack, samples: &'a [u32]) 
 }
 
 /// One pixel on another.
-fn one(name: &str, source: [f32; 4], dst: [f32; 4]) -> Vec<f32> {
-    let stack = Stack::new(&[Layer::new(operator(name), line(1))]);
-    let mut out = [0; 4];
-    compose(&inputs(1, &words(&dst), &stack, &words(&source)), &mut out).unwrap();
-    out.iter().map(|w| f32::from_bits(*w)).collect()
+fn one(operator: Operator, source: [f32; 4], dst: [f32; 4]) -> [f32; 4] {
+    let stack = Stack::new(&[Layer::new(operator, line(1))]);
+    let mut out = [0.0; 4];
+    compose(&inputs(1, words(&dst), &stack, words(&source)), words_mut(&mut out)).unwrap();
+    out
 }
 
 #[test]
 fn names() {
     for (name, number) in [("Soft-Light", 13), ("SRC over", 0), ("minus", 23), ("blur", 67)] {
-        assert_eq!(from_name(name.as_bytes()), Ok(number), "{name}");
+        assert_eq!(from_name(name.as_bytes()).map(Operator::number), Ok(number), "{name}");
     }
     for name in [&b""[..], b"no such", b"\xff", b"over\t"] {
         assert_eq!(from_name(name), Err(Fault::Operator));
@@ -49,11 +41,11 @@ fn names() {
 
 #[test]
 fn single_pixels() {
-    assert_eq!(one("over", [1.0, 0.0, 0.0, 0.5], [0.0, 0.0, 1.0, 1.0]), [0.5, 0.0, 0.5, 1.0]);
-    assert_eq!(one("over", [0.0; 4], [0.25, 0.5, 0.75, 0.0]), [0.25, 0.5, 0.75, 0.0]);
-    assert_eq!(one("in", [1.0; 4], [1.0, 1.0, 1.0, 0.5]), [0.5; 4]);
-    assert_eq!(one("colorburn", [0.0, 0.0, 0.0, 1.0], [1.0; 4]), [0.0, 0.0, 0.0, 1.0]);
-    assert_eq!(one("modulusadd", [0.75, 0.75, 0.75, 1.0], [0.5, 0.5, 0.5, 1.0]), [0.75, 0.75, 0.75, 1.0]);
+    assert_eq!(one(Operator::Over, [1.0, 0.0, 0.0, 0.5], [0.0, 0.0, 1.0, 1.0]), [0.5, 0.0, 0.5, 1.0]);
+    assert_eq!(one(Operator::Over, [0.0; 4], [0.25, 0.5, 0.75, 0.0]), [0.25, 0.5, 0.75, 0.0]);
+    assert_eq!(one(Operator::In, [1.0; 4], [1.0, 1.0, 1.0, 0.5]), [0.5; 4]);
+    assert_eq!(one(Operator::ColorBurn, [0.0, 0.0, 0.0, 1.0], [1.0; 4]), [0.0, 0.0, 0.0, 1.0]);
+    assert_eq!(one(Operator::ModulusAdd, [0.75, 0.75, 0.75, 1.0], [0.5, 0.5, 0.5, 1.0]), [0.75, 0.75, 0.75, 1.0]);
 }
 
 #[test]
@@ -61,7 +53,7 @@ fn placed_tiled_and_masked() {
     let layer = Layer {
         offset: (1, 0),
         flags: Flags { tile: true, overlay: false, channels: [true, false, false, true] },
-        ..Layer::new(operator("src"), line(3))
+        ..Layer::new(Operator::Src, line(3))
     };
     let stack = Stack::new(&[layer]);
     let samples: Vec<u32> = (0..12).collect();
@@ -73,7 +65,7 @@ fn placed_tiled_and_masked() {
 
 #[test]
 fn narrowing() {
-    let pixels = words(&[0.5, 1.0, f32::NAN, 0.25]);
+    let pixels = words(&[0.5, 1.0, f32::NAN, 0.25]).to_vec();
     let mut three = [0; 3];
     narrow(3, &pixels, &mut three).unwrap();
     assert_eq!(three, pixels[..3]);
@@ -102,17 +94,18 @@ struct Job {
 
 impl Job {
     fn new(layers: usize) -> Self {
-        let names = ["over", "multiply", "xor", "softlight", "displace", "hue", "rmse"];
+        use Operator::*;
+        let operators = [Over, Multiply, Xor, SoftLight, Displace, Hue, Rmse];
         let layer = |k: usize| Layer {
             gravity: Gravity::Centre,
             arguments: vec![0.5, 2.0],
-            ..Layer::new(operator(names[k % names.len()]), line(2))
+            ..Layer::new(operators[k % operators.len()], line(2))
         };
         Job {
             width: 2,
-            dst: words(&[0.1, 0.2, 0.3, 0.4, 0.5, 0.6, 0.7, 0.8]),
+            dst: words(&[0.1, 0.2, 0.3, 0.4, 0.5, 0.6, 0.7, 0.8]).to_vec(),
             layers: (0..layers).map(layer).collect(),
-            samples: words(&[0.9, 0.8, 0.7, 0.6, 0.25, 0.5, 0.75, 1.0]),
+            samples: words(&[0.9, 0.8, 0.7, 0.6, 0.25, 0.5, 0.75, 1.0]).to_vec(),
             work: [vec![1; 8], vec![2; 8]],
             mark: vec![0],
         }
@@ -170,21 +163,53 @@ fn every_fault() {
     with(|job| job.layers.clear()).refused(Fault::Stack, 0);
     with(|job| job.layers = vec![job.layers[0].clone(); 17]).refused(Fault::Stack, 0);
     with(|job| job.width = 2049).refused(Fault::Tray, 0);
-    with(|job| job.layers[1].operator = 70).refused(Fault::Operator, 1);
-    with(|job| job.layers[0].operator = 43).refused(Fault::Curve, 0);
+    with(|job| job.layers[0].operator = Operator::Interpolate).refused(Fault::Curve, 0);
     with(|job| job.layers[1].offset.1 = 1_000_001).refused(Fault::Placing, 1);
     with(|job| job.layers[1].source.first = 1).refused(Fault::Source, 1);
     with(|job| job.layers[0].arguments = vec![0.0; 5]).refused(Fault::Arguments, 0);
     with(|job| job.work[1] = vec![0; 7]).refused(Fault::Work, 0);
     with(|job| job.mark = vec![7]).refused(Fault::Mark, 0);
     with(|job| job.mark = vec![]).refused(Fault::Mark, 0);
-    // Flags have no wrong value in this crate's types; the table itself has.
-    let stack = Stack::new(&[Layer::new(0, line(1))]);
-    let mut table = stack.table.clone();
-    table[4] = 64;
+    // Operators and flags have no wrong value in this crate's types; the table itself has.
+    let stack = Stack::new(&[Layer::new(Operator::Over, line(1))]);
     let pixel = [0; 4];
-    let broken = Inputs { table: &table, ..inputs(1, &pixel, &stack, &pixel) };
-    assert_eq!(compose(&broken, &mut [0; 4]), Err(Error::Refused(Fault::Flags)));
+    for (column, number, fault) in [(0, 70, Fault::Operator), (4, 64, Fault::Flags)] {
+        let mut table = stack.table.clone();
+        table[column] = number;
+        let broken = Inputs { table: &table, ..inputs(1, &pixel, &stack, &pixel) };
+        assert_eq!(compose(&broken, &mut [0; 4]), Err(Error::Refused(fault)));
+    }
+}
+
+#[test]
+fn gravities_by_name() {
+    for (number, gravity) in Gravity::ALL.into_iter().enumerate() {
+        assert_eq!(gravity.number(), number as u64);
+        assert_eq!(gravity.to_string().parse(), Ok(gravity));
+        assert_eq!(gravity.name(), format!("{gravity:?}").to_lowercase());
+    }
+    let said = "up".parse::<Gravity>().unwrap_err().to_string();
+    let all = "none, northwest, north, northeast, west, centre, east, southwest, south, southeast";
+    assert_eq!(said, format!("no gravity `up`; it is one of {all}"));
+    assert_eq!((Gravity::default(), Flags::default().number()), (Gravity::None, 60));
+}
+
+/// Samples and words are the same memory: NaNs of every kind keep their bits, in both directions, and empty lists are lists.
+#[test]
+fn samples_as_words() {
+    let mut bits = [0x7fc0_0001, 0xffa0_0000, 0x7f80_0001, 0x8000_0000, 1, 0x3f80_0000];
+    let kept = bits;
+    let samples: Vec<f32> = kept.iter().map(|w| f32::from_bits(*w)).collect();
+    assert_eq!(words(floats(&bits)), kept);
+    assert_eq!(words_mut(floats_mut(&mut bits)), kept);
+    assert_eq!(floats(&bits).as_ptr() as usize, bits.as_ptr() as usize);
+    assert_eq!(words(&samples).len(), samples.len());
+    let mut written = [0.0; 6];
+    words_mut(&mut written).copy_from_slice(&kept);
+    assert_eq!(written.map(f32::to_bits), kept);
+    floats_mut(&mut bits)[5] = 2.0;
+    assert_eq!(bits[5], 0x4000_0000);
+    assert!(words(&[]).is_empty() && floats(&[]).is_empty());
 }
 
 #[test]

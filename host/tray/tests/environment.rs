@@ -4,7 +4,7 @@
 
 use std::arch::asm;
 use tray::{compose, environment, job, narrow, narrow_bytes};
-use tray::{Environment, Error, Inputs, Layer, Memory, Source, Stack};
+use tray::{Environment, Error, Inputs, Layer, Memory, Operator, Source, Stack};
 
 /// As a program starts: no trap, nothing flushed, rounding to nearest.
 const DEFAULT: u32 = 0x1f80;
@@ -31,8 +31,7 @@ const WRONG: [(u32, Environment); 5] = [
 
 #[test]
 fn each_call_is_refused() {
-    let plus = tray::from_name(b"plus").unwrap();
-    let stack = Stack::new(&[Layer::new(plus, Source { first: 0, width: 1, height: 1, channels: 4 })]);
+    let stack = Stack::new(&[Layer::new(Operator::Plus, Source { first: 0, width: 1, height: 1, channels: 4 })]);
     let pixel = [1, 2, 3, 1.0f32.to_bits()];
     let Stack { table, args } = &stack;
     let inputs = Inputs { width: 1, height: 1, channels: 4, dst: &pixel, layers: 1, table, args, samples: &pixel };

@@ -1,0 +1,31 @@
+//! A host in Rust: it lends its buffers to a job, stops after each 15 stores and goes on.
+//! TRAY_LIB=FOLDER cargo run --example job --manifest-path host/tray/Cargo.toml        # FOLDER has libtray.a
+
+use tray::{floats, job, words, Inputs, Layer, Memory, Operator, Source, Stack};
+
+fn main() -> Result<(), Box<dyn std::error::Error>> {
+    // A blue destination of 4 x 1 pixels, and a red source of 2 x 1, half transparent, laid one pixel to the right.
+    let blue = [0.0, 0.0, 1.0].repeat(4);
+    let red = [1.0, 0.0, 0.0, 0.5].repeat(2);
+    let source = Source { first: 0, width: 2, height: 1, channels: 4 };
+    let Stack { table, args } = &Stack::new(&[Layer { offset: (1, 0), ..Layer::new(Operator::Over, source) }]);
+    let (dst, samples) = (words(&blue), words(&red));
+    let inputs = Inputs { width: 4, height: 1, channels: 3, dst, layers: 1, table, args, samples };
+
+    // What a job writes: two work buffers of four words a pixel, and the mark. Where these lie in shared memory or in a
+    // mapped file, another process may go on, after this one was stopped between two calls or killed in one.
+    let (mut work0, mut work1, mut mark) = ([0; 16], [0; 16], [0]);
+    loop {
+        let progress = job(&inputs, 15, Memory { work0: &mut work0, work1: &mut work1, mark: &mut mark })?;
+        println!("{} stores, mark {}", progress.stores, mark[0]);
+        if progress.finished {
+            break;
+        }
+    }
+
+    // A job of one layer ends in work buffer 1.
+    for pixel in floats(&work1).chunks(4) {
+        println!("{} {} {} {}", pixel[0], pixel[1], pixel[2], pixel[3]);
+    }
+    Ok(())
+}
