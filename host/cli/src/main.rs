@@ -5,6 +5,7 @@ mod folder;
 mod layers;
 mod make;
 mod mapped;
+mod operators;
 mod run;
 mod status;
 
@@ -33,6 +34,8 @@ enum Action {
     Status(status::Status),
     /// Write a job's picture as PNG or PFM
     Export(export::Export),
+    /// List the operators: names, aliases, what they do, arguments and their defaults
+    Operators(operators::Operators),
 }
 
 /// The environment is looked at before anything else, since reading a picture computes too.
@@ -43,6 +46,7 @@ fn act(action: Action) -> Result<()> {
         Action::Run(run) => run.run(),
         Action::Status(status) => status.print(),
         Action::Export(export) => export.write(),
+        Action::Operators(operators) => operators.print(),
     }
 }
 
