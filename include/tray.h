@@ -1,6 +1,7 @@
 /* tray.h: the C interface of libtray.a, the proved tray compositor.
  *
- * Build the library with `rt staticlib tray`; link target/staticlib/libtray.a and -lm.
+ * Build the library with `rt staticlib tray`; link target/staticlib/libtray.a and -lm. Or install both with tools/install, and
+ * take `pkg-config --cflags --libs libtray`. examples/job.c is a whole host.
  *
  * Words. A picture, the source samples and the arguments are lists of words: the bits of binary32 floats. A host passes
  * its float buffer's pointer as it is (as uint32_t *). Pixels go row by row, samples of a pixel side by side: 1 channel
