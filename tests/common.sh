@@ -1,5 +1,7 @@
+# shellcheck shell=bash
 # Sourced by the tests. A test says `skipped: ..` in one line, and passes, where something it needs cannot be had.
 set -euo pipefail
+source "$(dirname "${BASH_SOURCE[0]}")/../tools/folders.sh"
 cd "$(dirname "${BASH_SOURCE[0]}")/.."
 mkdir -p target/tests
 
@@ -20,10 +22,14 @@ library() {
     if [ -z "${TRAY_LIB:-}" ]; then
         needs rt
         tools/library > target/tests/staticlib.log 2>&1 || { tail -n 20 target/tests/staticlib.log; exit 1; }
-        TRAY_LIB=target/staticlib
+        export TRAY_LIB=$PWD/target/staticlib
     fi
-    TRAY_LIB=$(cd "$TRAY_LIB" && pwd)
-    export TRAY_LIB
+}
+
+# Exports RUST_SRC, the folder of the Rust's files: the one that is set, or the one beside the repository. It fails where they are not there.
+rust() {
+    export RUST_SRC=${RUST_SRC:-${PWD%/*}/shared/docs/src}
+    ls "$RUST_SRC"/*composite.rs* > /dev/null 2>&1
 }
 
 # compile OUT SOURCE.. [WORDS..]: C sources with the library.
