@@ -2,6 +2,7 @@
 //! build.rs found them. Only their time is compared: they define some operators otherwise.
 
 use crate::inputs::Pair;
+use crate::turns::Side;
 use std::ffi::c_void;
 
 /// The four calls of pixman.c and of magick.c.
@@ -15,9 +16,17 @@ struct Calls {
 pub struct Library {
     pub name: &'static str,
     pub version: &'static str,
+    /// Debian's package.
+    pub package: &'static str,
     /// Whether its colours are multiplied by alpha.
     multiplied: bool,
     calls: Option<Calls>,
+}
+
+impl Library {
+    pub fn is_there(&self) -> bool {
+        self.calls.is_some()
+    }
 }
 
 /// The calls of a library that build.rs found under this name.
@@ -44,12 +53,14 @@ pub const LIBRARIES: [Library; COUNT] = [
     Library {
         name: "pixman",
         version: env!("PIXMAN_VERSION"),
+        package: "libpixman-1-dev",
         multiplied: true,
         calls: calls!(pixman, pixman_operator, pixman_image, pixman_free, pixman_compose),
     },
     Library {
         name: "ImageMagick",
         version: env!("MAGICK_VERSION"),
+        package: "libmagickcore-6.q16hdri-dev",
         multiplied: false,
         calls: calls!(magick, magick_operator, magick_image, magick_free, magick_compose),
     },
@@ -62,7 +73,9 @@ pub struct Composition {
     side: i32,
     images: [*mut c_void; 2],
     /// pixman's images point into them.
-    _samples: [Vec<f32>; 2],
+    samples: [Vec<f32>; 2],
+    /// The destination as it was, for the next turn.
+    dst: Vec<f32>,
 }
 
 fn samples(words: &[u32], multiplied: bool) -> Vec<f32> {
@@ -88,10 +101,22 @@ impl Composition {
         let mut samples = [&pair.src, &pair.dst].map(|words| samples(words, library.multiplied));
         let images = samples.each_mut().map(|list| unsafe { (calls.image)(side, list.as_mut_ptr()) });
         assert!(images.iter().all(|image| !image.is_null()), "{} makes no image", library.name);
-        Some(Composition { calls, operator, side, images, _samples: samples })
+        let dst = samples[1].clone();
+        Some(Composition { calls, operator, side, images, samples, dst })
+    }
+}
+
+impl Side for Composition {
+    /// A composition in place leaves a result, which the next one would begin with: after many, some operators have
+    /// numbers so small that they take longer. Each turn begins with the same destination.
+    fn prepare(&mut self) {
+        self.samples[1].copy_from_slice(&self.dst);
+        unsafe { (self.calls.free)(self.images[1]) };
+        self.images[1] = unsafe { (self.calls.image)(self.side, self.samples[1].as_mut_ptr()) };
+        assert!(!self.images[1].is_null(), "an image is not made");
     }
 
-    pub fn run(&mut self) {
+    fn compose(&mut self) {
         let done = unsafe { (self.calls.compose)(self.operator, self.images[0], self.images[1], self.side) };
         assert!(done != 0, "a composition failed");
     }
