@@ -26,7 +26,8 @@ fn main() {
             .canonicalize()
             .unwrap();
         println!("cargo::rerun-if-changed={}", path.display());
-        modules += &format!("#[allow(dead_code)]\n#[path = {path:?}]\npub mod {name};\n");
+        // They are not ours to change: what they do not use here, and clippy's advice on them, is not told.
+        modules += &format!("#[allow(dead_code, clippy::all)]\n#[path = {path:?}]\npub mod {name};\n");
     }
     let out = PathBuf::from(env::var("OUT_DIR").unwrap());
     fs::write(out.join("modules.rs"), modules).unwrap();

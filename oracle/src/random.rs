@@ -67,7 +67,8 @@ impl Random {
         Random(seed.wrapping_mul(0x9e37_79b9_7f4a_7c15) ^ 0x1234_5678_9abc_def0)
     }
 
-    pub fn next(&mut self) -> u64 {
+    /// All 64 bits.
+    pub fn bits(&mut self) -> u64 {
         self.0 = self.0.wrapping_add(0x9e37_79b9_7f4a_7c15);
         let mut z = self.0;
         z = (z ^ (z >> 30)).wrapping_mul(0xbf58_476d_1ce4_e5b9);
@@ -76,7 +77,7 @@ impl Random {
     }
 
     pub fn below(&mut self, n: u64) -> u64 {
-        self.next() % n
+        self.bits() % n
     }
 
     pub fn one_in(&mut self, n: u64) -> bool {
@@ -111,7 +112,7 @@ impl Random {
             Flavour::Unit => self.unit(),
             Flavour::Around => self.unit() * 5.0 - 2.0,
             Flavour::Special => return self.pick(&SPECIAL),
-            Flavour::Any => return self.next() as u32,
+            Flavour::Any => return self.bits() as u32,
             Flavour::Mixed => {
                 let other = self.flavour();
                 return match other {
@@ -389,8 +390,8 @@ impl Random {
                 0 => {
                     name.remove(at);
                 }
-                1 => name[at] = self.next() as u8,
-                2 => name.insert(at, self.next() as u8),
+                1 => name[at] = self.bits() as u8,
+                2 => name.insert(at, self.bits() as u8),
                 _ => name.truncate(at),
             }
         }

@@ -71,6 +71,8 @@ impl Answer {
 /// One party of a comparison: the five public calls. `job.layers` is not read by `compose`.
 pub trait Side {
     /// The operator's number, or `None` for an unknown name.
+    // The exported call has this name; a side is no operator, and `self` is asked.
+    #[allow(clippy::wrong_self_convention)]
     fn from_name(&self, name: &[u8]) -> Option<u64>;
     /// A number: 0, or the fault.
     fn compose(&self, job: &Job, out: &mut [u32]) -> u64;

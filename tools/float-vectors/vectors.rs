@@ -16,16 +16,13 @@ const SIGN: u32 = 0x8000_0000;
 // Magnitudes: zero, the smallest and largest subnormals, the smallest and largest normals, infinity,
 // and what lies between.
 const PLAIN: [u32; 24] = [
-    0x0000_0000, 0x0000_0001, 0x0000_0003, 0x0040_0000, 0x007f_ffff, 0x0080_0000, 0x0080_0001,
-    0x2edb_e6ff, 0x3dcc_cccd, 0x3e80_0000, 0x3eff_ffff, 0x3f00_0000, 0x3f7f_ffff, 0x3f80_0000,
-    0x3f80_0001, 0x3fa0_0000, 0x4000_0000, 0x4020_0000, 0x437f_0000, 0x4b7f_ffff, 0x4b80_0000,
-    0x7f00_0000, 0x7f7f_ffff, 0x7f80_0000,
+    0x0000_0000, 0x0000_0001, 0x0000_0003, 0x0040_0000, 0x007f_ffff, 0x0080_0000, 0x0080_0001, 0x2edb_e6ff,
+    0x3dcc_cccd, 0x3e80_0000, 0x3eff_ffff, 0x3f00_0000, 0x3f7f_ffff, 0x3f80_0000, 0x3f80_0001, 0x3fa0_0000,
+    0x4000_0000, 0x4020_0000, 0x437f_0000, 0x4b7f_ffff, 0x4b80_0000, 0x7f00_0000, 0x7f7f_ffff, 0x7f80_0000,
 ];
 
 // NaN patterns: quiet and signalling, with payloads, of both signs.
-const NANS: [u32; 6] = [
-    0x7fc0_0000, 0xffc0_0000, 0x7f80_0001, 0x7fbf_ffff, 0xffff_ffff, 0x7fd5_5555,
-];
+const NANS: [u32; 6] = [0x7fc0_0000, 0xffc0_0000, 0x7f80_0001, 0x7fbf_ffff, 0xffff_ffff, 0x7fd5_5555];
 
 fn f(w: u32) -> f32 {
     f32::from_bits(w)
@@ -168,15 +165,41 @@ fn roots() -> Vec<u32> {
 
 // The steps' names, in the order of their numbers.
 const NAMES: [&str; 17] = [
-    "word of value", "smaller", "larger", "clamp", "unit", "finite", "rem", "rem_euclid", "wrap", "sqrt", "abs",
-    "square", "floor", "byte", "axis at", "axis next", "axis along",
+    "word of value",
+    "smaller",
+    "larger",
+    "clamp",
+    "unit",
+    "finite",
+    "rem",
+    "rem_euclid",
+    "wrap",
+    "sqrt",
+    "abs",
+    "square",
+    "floor",
+    "byte",
+    "axis at",
+    "axis next",
+    "axis along",
 ];
 
 fn main() {
     let mut out = Out { rows: Vec::new() };
     let all = words();
     let few = [
-        0, SIGN, 1, 0x8000_0001, 0x3f00_0000, 0x3f80_0000, 0xbf80_0000, 0x7f7f_ffff, INF, INF | SIGN, NAN, 0xff80_0001,
+        0,
+        SIGN,
+        1,
+        0x8000_0001,
+        0x3f00_0000,
+        0x3f80_0000,
+        0xbf80_0000,
+        0x7f7f_ffff,
+        INF,
+        INF | SIGN,
+        NAN,
+        0xff80_0001,
     ];
     for &a in &all {
         out.put(0, a, 0, 0, word(f(a)));
@@ -235,7 +258,20 @@ fn main() {
         out.put(13, v, 0, 0, byte(f(v)));
     }
     for side in [1usize, 2, 7, 2048, 0x100_0000] {
-        for x in [0, SIGN, 1, 0x3f7f_ffff, 0x4020_0000, 0xbf80_0000, 0x40bf_ffff, 0x44ff_e000, 0x4b7f_ffff, INF, INF | SIGN, NAN] {
+        for x in [
+            0,
+            SIGN,
+            1,
+            0x3f7f_ffff,
+            0x4020_0000,
+            0xbf80_0000,
+            0x40bf_ffff,
+            0x44ff_e000,
+            0x4b7f_ffff,
+            INF,
+            INF | SIGN,
+            NAN,
+        ] {
             let (at, next, along) = axis(f(x), side);
             out.put(14, x, side as u32, 0, at);
             out.put(15, x, side as u32, 0, next);
@@ -250,7 +286,9 @@ fn main() {
         println!("rows of no step: 0 right, 0 wrong");
         return;
     }
-    println!("# what each float step must give; written by tools/float-vectors/vectors.rs with Rust's std on IEEE 754 hardware");
+    println!(
+        "# what each float step must give; written by tools/float-vectors/vectors.rs with Rust's std on IEEE 754 hardware"
+    );
     for r in &out.rows {
         println!("{}", line(r));
     }

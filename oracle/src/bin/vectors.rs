@@ -8,12 +8,14 @@
 //! - LIST: its length, then as many numbers. '=' in its place stands for the list of that name as the last
 //!   line that had one left it.
 //!
-//!     F NAME                                                  number operator
-//!     N wanted INPUT length                                   number OUT
-//!     B wanted INPUT length                                   number OUT
-//!     C width height channels DST TABLE ARGS SAMPLES length   number OUT
-//!     J width height channels DST layers TABLE ARGS SAMPLES WORK0 WORK1 MARK ALLOWANCES
-//!         {number layer stores finished mark} for each allowance, then WORK0 WORK1 MARK
+//! ```text
+//! F NAME                                                  number operator
+//! N wanted INPUT length                                   number OUT
+//! B wanted INPUT length                                   number OUT
+//! C width height channels DST TABLE ARGS SAMPLES length   number OUT
+//! J width height channels DST layers TABLE ARGS SAMPLES WORK0 WORK1 MARK ALLOWANCES
+//!     {number layer stores finished mark} for each allowance, then WORK0 WORK1 MARK
+//! ```
 //!
 //! What is asked stands first, then what must be answered; oracle/README.md says more of each.
 

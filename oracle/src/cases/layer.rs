@@ -48,10 +48,13 @@ pub fn arguments(given: &[u32]) -> Vec<u32> {
     four
 }
 
-/// Single pixels by one operator: a picture one row high, a pair of pixels (source, destination) a column.
-pub fn pairs(operator: i64, pixels: &[([f32; 4], [f32; 4])], given: &[f32]) -> Job {
+/// A pixel of the source and one of the destination.
+type Pair = ([f32; 4], [f32; 4]);
+
+/// Single pixels by one operator: a picture one row high, a pair of pixels a column.
+pub fn pairs(operator: i64, pixels: &[Pair], given: &[f32]) -> Job {
     let width = pixels.len() as i64;
-    let words = |side: fn(&([f32; 4], [f32; 4])) -> [f32; 4]| -> Vec<u32> {
+    let words = |side: fn(&Pair) -> [f32; 4]| -> Vec<u32> {
         pixels.iter().flat_map(|pair| side(pair).map(f32::to_bits)).collect()
     };
     let given: Vec<u32> = given.iter().map(|v| v.to_bits()).collect();

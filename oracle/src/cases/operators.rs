@@ -77,5 +77,5 @@ pub fn put(book: &mut Book) {
 }
 
 fn picture_of(random: &mut Random, draw: &dyn Fn(u64) -> u32) -> Vec<u32> {
-    (0..SIDE * SIDE * 4).map(|_| draw(random.next() >> 8)).collect()
+    (0..SIDE * SIDE * 4).map(|_| draw(random.bits() >> 8)).collect()
 }

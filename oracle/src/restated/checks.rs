@@ -165,7 +165,7 @@ impl Reading {
 
     /// Fault 11.
     pub fn narrowing(self, wanted: i64, input: usize, out: usize) -> bool {
-        let whole = input % 4 == 0 || self.is(Wrong::NarrowPartPixel);
+        let whole = input.is_multiple_of(4) || self.is(Wrong::NarrowPartPixel);
         let want = input / 4 * wanted.max(0) as usize;
         let length = out == want || self.is(Wrong::NarrowLonger) && out > want;
         !(self.channels(wanted, Wrong::NarrowTwoChannels) && whole && length)

@@ -2,6 +2,9 @@
 //! narrowing, faults and the job, one store after the other. Each place where a reader may go wrong has a
 //! switch (`wrong.rs`); with none set this agrees with the Rust and its model on every request.
 
+// A negated comparison is another one where an operand is NaN, and some misreadings are just that.
+#![allow(clippy::neg_cmp_op_on_partial_ord)]
+
 mod blend;
 mod checks;
 mod convention;
