@@ -11,6 +11,12 @@ fn says(program: &str, words: &[&str]) -> Option<String> {
     output.status.success().then(|| String::from_utf8_lossy(&output.stdout).trim().to_string())
 }
 
+/// A compiler's tool; that it fails is told.
+fn make(program: &str, words: &[&str]) {
+    let output = Command::new(program).args(words).output().unwrap_or_else(|error| panic!("{program}: {error}"));
+    assert!(output.status.success(), "{program} {}:\n{}", words.join(" "), String::from_utf8_lossy(&output.stderr));
+}
+
 /// Compiles src/NAME.c against a package and links both. Answers the package's version, if it is there.
 fn linked(name: &str, package: &str) -> Option<String> {
     println!("cargo::rustc-check-cfg=cfg({name})");
@@ -21,10 +27,13 @@ fn linked(name: &str, package: &str) -> Option<String> {
     let object = out.join(format!("{name}.o")).display().to_string();
     let archive = out.join(format!("libbench_{name}.a")).display().to_string();
     let source = format!("src/{name}.c");
-    let mut words: Vec<&str> = flags.split_ascii_whitespace().collect();
-    words.extend(["-O2", "-c", &source, "-o", &object]);
-    says("cc", &words)?;
-    says("ar", &["rcs", &archive, &object])?;
+    // Warnings are errors here, but not in the package's headers.
+    let flags = format!(" {flags}").replace(" -I", " -isystem");
+    let mut words = vec!["-std=gnu11", "-O2", "-Wall", "-Wextra", "-Werror"];
+    words.extend(flags.split_ascii_whitespace());
+    words.extend(["-c", &source, "-o", &object]);
+    make("cc", &words);
+    make("ar", &["rcs", &archive, &object]);
     println!("cargo::rustc-cfg={name}");
     println!("cargo::rustc-link-search=native={}", out.display());
     println!("cargo::rustc-link-lib=static=bench_{name}");
