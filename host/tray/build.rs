@@ -1,15 +1,24 @@
-//! Links libtray.a. TRAY_LIB names the folder that has it; without it target/staticlib of the repository is taken,
-//! where `rt staticlib tray` puts it.
+//! Links libtray.a. TRAY_LIB names the folder that has it, relative to whoever calls cargo; without it target/staticlib of
+//! the repository is taken, where `rt staticlib tray` puts it.
 
 use std::env;
 use std::path::PathBuf;
 
+/// A folder as the caller of cargo sees it: cargo runs this program in the package's own folder.
+fn of_caller(folder: PathBuf) -> PathBuf {
+    if folder.is_absolute() {
+        return folder;
+    }
+    println!("cargo:rerun-if-env-changed=PWD");
+    PathBuf::from(env::var_os("PWD").unwrap_or_default()).join(folder)
+}
+
 fn main() {
     println!("cargo:rerun-if-env-changed=TRAY_LIB");
     let here = PathBuf::from(env::var("CARGO_MANIFEST_DIR").unwrap());
-    let folder = match env::var("TRAY_LIB") {
-        Ok(folder) => PathBuf::from(folder),
-        Err(_) => here.join("../../target/staticlib"),
+    let folder = match env::var_os("TRAY_LIB") {
+        Some(folder) => of_caller(folder.into()),
+        None => here.join("../../target/staticlib"),
     };
     let archive = folder.join("libtray.a");
     if !archive.exists() {
