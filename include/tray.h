@@ -251,8 +251,9 @@ uint64_t tray_narrow_bytes(int64_t wanted, const uint32_t *input, size_t input_l
  *    calls never overlap;
  *  - all of a job's calls get the same inputs;
  *  - work0, work1 and mark are lent to no other job, and written by nothing else, from the first call to the last;
- *  - where the three live in shared memory or a mapped file, a killed process loses nothing. What a machine without
- *    power loses is the file system's affair. */
+ *  - where the three live in shared memory or a mapped file, a killed process loses nothing. A machine that loses its
+ *    power may have stored the mark and not its pixels: a host that must outlive this stores the picture at the end of
+ *    each phase, then the mark, apart, and only then begins the next, and takes the job up at that mark (host/README.md). */
 uint64_t tray_job(
     int64_t width, int64_t height, int64_t channels, const uint32_t *dst, size_t dst_length,
     int64_t layers, const int64_t *table, size_t table_length, const uint32_t *args, size_t args_length,

@@ -38,3 +38,16 @@ compile() {
     shift
     gcc -std=gnu11 -O2 -Wall -Wextra -Werror "$@" "$TRAY_LIB/libtray.a" -lm -o "target/tests/$out"
 }
+
+# preloaded NAME SOURCE: a library for LD_PRELOAD, target/tests/NAME.so.
+preloaded() {
+    gcc -std=gnu11 -O2 -Wall -Wextra -Werror -shared -fPIC "$2" -o "target/tests/$1.so"
+}
+
+# Whether Debian's crates are installed that the command is built with; the first that is not is printed.
+debian_crates() {
+    local crate
+    for crate in anyhow clap indicatif png; do
+        ls -d /usr/share/cargo/registry/$crate-[0-9]* > /dev/null 2>&1 || { echo "$crate"; return 1; }
+    done
+}

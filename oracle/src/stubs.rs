@@ -71,6 +71,7 @@ pub mod kernel {
         Keep,
         Premultiplied,
     }
+    // The Rust's own signature.
     #[allow(clippy::too_many_arguments)]
     pub fn convolve_separable(
         _: &[f32],

@@ -2,7 +2,8 @@
 //!
 //!     OPERATOR PICTURE [at=RIGHT,DOWN] [gravity=NAME] [channels=rgba] [args=A,B,..] [tile] [overlay]
 //!
-//! The operator is any name that the library knows, such as over or soft-light. `channels` are the ones written.
+//! The operator is any name that the library knows, such as over or soft-light. `channels` are the ones written. A word
+//! with spaces in it, such as a picture's name, stands between quotation marks: "well 7.png".
 
 use anyhow::{bail, ensure, Context, Result};
 use std::path::PathBuf;
@@ -15,6 +16,28 @@ pub struct Line {
     pub layer: Layer,
     pub operator: String,
     pub picture: PathBuf,
+    /// Where it was written, for errors.
+    pub place: String,
+}
+
+const OPTIONS: &str = "at=RIGHT,DOWN, gravity=NAME, channels=rgba, args=A,B, tile and overlay";
+
+/// The words of a line, those in quotation marks without them.
+fn words(line: &str) -> Result<Vec<&str>> {
+    let space = |c: char| c.is_ascii_whitespace();
+    let mut words = vec![];
+    let mut rest = line.trim_start_matches(space);
+    while !rest.is_empty() {
+        let (word, after) = match rest.strip_prefix('"') {
+            Some(quoted) => quoted.split_once('"').context("a quotation mark without its second one")?,
+            None => rest.split_at(rest.find(space).unwrap_or(rest.len())),
+        };
+        ensure!(!word.contains('\n'), "a line end between quotation marks");
+        ensure!(after.is_empty() || after.starts_with(space), "no space after \"{word}\"");
+        words.push(word);
+        rest = after.trim_start_matches(space);
+    }
+    Ok(words)
 }
 
 fn numbers<T: FromStr>(list: &str) -> Result<Vec<T>> {
@@ -26,7 +49,10 @@ fn numbers<T: FromStr>(list: &str) -> Result<Vec<T>> {
 }
 
 fn channels(letters: &str) -> Result<[bool; 4]> {
-    ensure!(letters.chars().all(|c| "rgba".contains(c)), "channels are r, g, b and a, not {letters}");
+    for (n, c) in letters.char_indices() {
+        ensure!("rgba".contains(c), "channels are r, g, b and a, not `{c}`");
+        ensure!(!letters[..n].contains(c), "channels={letters} has {c} twice");
+    }
     Ok(['r', 'g', 'b', 'a'].map(|c| letters.contains(c)))
 }
 
@@ -41,24 +67,33 @@ fn option(layer: &mut Layer, word: &str) -> Result<()> {
         Some(("gravity", name)) => layer.gravity = name.parse()?,
         Some(("channels", letters)) => layer.flags.channels = channels(letters)?,
         Some(("args", list)) => layer.arguments = numbers(list)?,
-        _ => bail!("{word} is no option of a layer"),
+        _ => bail!("`{word}` is no option of a layer; there are {OPTIONS}"),
     }
     Ok(())
 }
 
-impl FromStr for Line {
-    type Err = anyhow::Error;
+/// Takes the options in turn, each at most once.
+fn options(layer: &mut Layer, words: &[&str]) -> Result<()> {
+    let name = |word: &str| word.split('=').next().unwrap_or_default().to_string();
+    for (n, word) in words.iter().enumerate() {
+        option(layer, word)?;
+        ensure!(words[..n].iter().all(|w| name(w) != name(word)), "{} is given twice", name(word));
+    }
+    Ok(())
+}
 
-    fn from_str(line: &str) -> Result<Self> {
-        let mut words = line.split_ascii_whitespace();
-        let name = words.next().context("a layer begins with its operator")?;
-        let picture = words.next().context("a layer names its picture after its operator")?.into();
+impl Line {
+    /// Reads a line that was written at `place`; its errors do not say the place.
+    pub fn read(line: &str, place: &str) -> Result<Self> {
+        let words = words(line)?;
+        let name = words.first().context("a layer begins with its operator")?;
+        let picture = words.get(1).context("a layer names its picture after its operator")?;
         let operator: Operator = name.parse().with_context(|| name.to_string())?;
         let nowhere = Source { first: 0, width: 0, height: 0, channels: 4 };
         let mut layer = Layer::new(operator, nowhere);
-        words.try_for_each(|word| option(&mut layer, word))?;
+        options(&mut layer, &words[2..])?;
         ensure!(layer.arguments.len() <= ARGUMENTS, tray::Fault::Arguments);
-        Ok(Line { layer, operator: name.to_string(), picture })
+        Ok(Line { layer, operator: name.to_string(), picture: picture.into(), place: place.to_string() })
     }
 }
 
@@ -67,9 +102,13 @@ mod tests {
     use super::*;
     use tray::{Flags, Gravity};
 
+    fn read(line: &str) -> Result<Line> {
+        Line::read(line, "here")
+    }
+
     #[test]
     fn a_whole_line() {
-        let line: Line = "Soft-Light a.png at=3,-2 gravity=centre channels=rb args=0.5,2 tile".parse().unwrap();
+        let line = read("Soft-Light a.png at=3,-2 gravity=centre channels=rb args=0.5,2 tile").unwrap();
         assert_eq!(line.picture, PathBuf::from("a.png"));
         let Layer { operator, offset, gravity, .. } = line.layer;
         assert_eq!((operator, offset, gravity), (Operator::SoftLight, (3, -2), Gravity::Centre));
@@ -78,21 +117,49 @@ mod tests {
     }
 
     #[test]
+    fn words_between_quotation_marks() {
+        let line = read(" \"soft light\"\t\"a b.png\"  tile ").unwrap();
+        assert_eq!(
+            (line.layer.operator, line.picture, line.layer.flags.tile),
+            (Operator::SoftLight, PathBuf::from("a b.png"), true)
+        );
+        assert_eq!(read("over a\"b.png").unwrap().picture, PathBuf::from("a\"b.png"));
+    }
+
+    /// What a line that is not one of a layer is answered.
+    fn said(line: &str) -> String {
+        format!("{:#}", read(line).unwrap_err())
+    }
+
+    #[test]
     fn lines_out_of_form() {
-        for line in ["", "over", "nothing a.png", "over a.png at=1", "over a.png gravity=up", "over a.png channels=x"] {
-            assert!(line.parse::<Line>().is_err(), "{line}");
-        }
-        for line in [
-            "over a.png big",
-            "over a.png args=1,2,3,4,5",
-            "over a.png at=x,y",
-            "over a.png at=1,,2",
-            "over a.png args=1,",
+        for (line, wanted) in [
+            ("", "a layer begins with its operator"),
+            ("over", "a layer names its picture after its operator"),
+            ("nothing a.png", "nothing: refused: 3 OPERATOR: no such operator"),
+            ("over a.png at=1", "at has two numbers: right,down"),
+            ("over a.png at=x,y", "`x` is no number here"),
+            ("over a.png at=1,,2", "`` is no number here"),
+            ("over a.png args=1,", "`` is no number here"),
+            ("over a.png args=1,2,3,4,5", "refused: 8 ARGUMENTS: a layer has 0 to 4 arguments"),
+            ("over a.png channels=rx", "channels are r, g, b and a, not `x`"),
+            ("over a.png channels=rgr", "channels=rgr has r twice"),
+            ("over \"a.png", "a quotation mark without its second one"),
+            ("over \"a.png\"tile", "no space after \"a.png\""),
+            ("over \"a\nb.png\"", "a line end between quotation marks"),
         ] {
-            assert!(line.parse::<Line>().is_err(), "{line}");
+            assert_eq!(said(line), wanted);
         }
-        assert!("over a.png args=".parse::<Line>().unwrap().layer.arguments.is_empty());
-        let error = "nothing a.png".parse::<Line>().unwrap_err();
-        assert_eq!(format!("{error:#}"), "nothing: refused: 3 OPERATOR: no such operator");
+        assert!(said("over a.png big").starts_with("`big` is no option of a layer; there are at="));
+        assert!(said("over a.png gravity=up").starts_with("no gravity `up`; it is one of none, northwest, "));
+        assert!(read("over a.png args=").unwrap().layer.arguments.is_empty());
+    }
+
+    #[test]
+    fn options_given_twice() {
+        for word in ["at=1,2", "gravity=east", "channels=r", "args=1", "tile", "overlay"] {
+            let name = word.split('=').next().unwrap();
+            assert_eq!(said(&format!("over a.png {word} {word}")), format!("{name} is given twice"));
+        }
     }
 }

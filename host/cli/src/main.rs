@@ -1,23 +1,25 @@
 //! The command `tray`: makes a job folder from pictures and layers, runs it, shows it, takes it up, exports its picture.
 
 mod export;
-mod folder;
 mod layers;
+mod layers_file;
 mod make;
-mod mapped;
 mod operators;
+mod progress;
 mod run;
 mod status;
 
 use anyhow::Result;
 use clap::{Parser, Subcommand};
 use std::process::ExitCode;
+use tray_cli::exit::{self, Exit};
 
 #[derive(Parser)]
 #[command(
     name = "tray",
     version,
-    about = "Lays pictures on a tray, pixel by pixel, and takes a stopped job up where it stopped"
+    about = "Lays pictures on a tray, pixel by pixel, and takes a stopped job up where it stopped",
+    after_help = exit::help()
 )]
 struct Command {
     #[command(subcommand)]
@@ -32,16 +34,17 @@ enum Action {
     Run(run::Run),
     /// Show how far a job is
     Status(status::Status),
-    /// Write a job's picture as PNG or PFM
+    /// Write a job's picture as PNG, PFM, TIFF or raw words
     Export(export::Export),
     /// List the operators: names, aliases, what they do, arguments and their defaults
     Operators(operators::Operators),
 }
 
 /// The environment is looked at before anything else, since reading a picture computes too.
-fn act(action: Action) -> Result<()> {
+fn act(command: Command) -> Result<Exit> {
     tray::environment()?;
-    match action {
+    tray_folder::on_storage_failure("tray: the storage failed under a job's file", Exit::Storage as u8);
+    match command.action {
         Action::Make(make) => make.make(),
         Action::Run(run) => run.run(),
         Action::Status(status) => status.print(),
@@ -51,11 +54,5 @@ fn act(action: Action) -> Result<()> {
 }
 
 fn main() -> ExitCode {
-    match act(Command::parse().action) {
-        Ok(()) => ExitCode::SUCCESS,
-        Err(error) => {
-            eprintln!("tray: {error:#}");
-            ExitCode::FAILURE
-        }
-    }
+    exit::command("tray", act)
 }

@@ -1,14 +1,17 @@
 //! `tray make`.
 
-use crate::folder::Folder;
 use crate::layers::Line;
-use anyhow::{ensure, Context, Result};
+use crate::layers_file;
+use anyhow::{Context, Error, Result};
 use clap::Args;
 use std::collections::HashMap;
 use std::path::{Path, PathBuf};
-use tray::{Inputs, Layer, Memory, Source, Stack};
+use tray::{Fault, Inputs, Layer, Refusal, Source, Stack};
+use tray_cli::exit::{Ended, Exit};
 use tray_cli::picture::Picture;
 use tray_cli::picture_file;
+use tray_cli::say::{count, say, sides};
+use tray_folder::Folder;
 
 #[derive(Args)]
 pub struct Make {
@@ -20,27 +23,62 @@ pub struct Make {
     /// The destination: the picture of a finished job, with all its bits
     #[arg(long, value_name = "JOB", conflicts_with = "tray")]
     on: Option<PathBuf>,
-    /// A layer, lowest first: 'OPERATOR PICTURE [at=RIGHT,DOWN] [gravity=NAME] [channels=rgba] [args=A,B] [tile] [overlay]'
+    /// A layer, lowest first: 'OPERATOR PICTURE [at=RIGHT,DOWN] [gravity=NAME] [channels=rgba] [args=A,B] [tile] [overlay]'; a name with spaces stands between quotation marks. Errors count these from 1, as lines of a file; the job's layers are counted from 0, as the library counts them
     #[arg(long = "layer", value_name = "LINE")]
     layer: Vec<String>,
-    /// A file with a layer a line, as for --layer; pictures are looked for beside it; lines that begin with # are notes, blank lines nothing
+    /// A file with a layer a line, as for --layer and after those; pictures are looked for beside it; lines that begin with # are notes, blank lines nothing
     #[arg(long, value_name = "FILE")]
     layers: Option<PathBuf>,
 }
 
 impl Make {
-    pub fn make(self) -> Result<()> {
+    pub fn make(self) -> Result<Exit> {
         let dst = self.destination()?;
         let mut sources = Sources::default();
         let lines = self.lines()?;
         let layers = lines.iter().map(|line| sources.place(line)).collect::<Result<Vec<Layer>>>()?;
         let names =
             lines.iter().map(|line| format!("{} {}", line.operator, line.picture.display())).collect::<Vec<_>>();
-        let stack = Stack::new(&layers);
-        accepted(&dst, &stack, &sources.samples)?;
-        Folder::create(&self.job, &dst, &stack, &names, &sources.samples)?;
-        println!("{}: {} x {} pixels, {} layers", self.job.display(), dst.width, dst.height, layers.len());
-        Ok(())
+        let Stack { table, args } = &Stack::new(&layers);
+        let inputs = Inputs {
+            width: dst.width as i64,
+            height: dst.height as i64,
+            channels: dst.channels as i64,
+            dst: &dst.words,
+            layers: layers.len() as i64,
+            table,
+            args,
+            samples: &sources.samples,
+        };
+        Folder::create(&self.job, &inputs, &names).map_err(|error| self.placed(error, &lines))?;
+        let (job, size) = (self.job.display(), sides(dst.width, dst.height));
+        say(format!("{job}: {size}, {}", count(layers.len() as u64, "layer")))?;
+        Ok(Exit::Done)
+    }
+
+    /// A refusal with the place that it came from in front: where the layer was written, or the destination.
+    fn placed(&self, error: tray_folder::Error, lines: &[Line]) -> Error {
+        let refused = match error {
+            tray_folder::Error::Refused(_, refused) => refused,
+            other => return other.into(),
+        };
+        let place = match refused {
+            tray::Error::Refused(Refusal { fault, layer }) if fault.has_layer() => {
+                lines.get(layer as usize).map(|line| line.place.clone())
+            }
+            // The first of the layers that are too many.
+            tray::Error::Refused(Refusal { fault: Fault::Stack, .. }) => {
+                lines.get(tray::LAYERS).map(|line| line.place.clone())
+            }
+            tray::Error::Refused(Refusal { fault: Fault::Tray, .. }) => {
+                self.tray.as_ref().or(self.on.as_ref()).map(|path| path.display().to_string())
+            }
+            _ => None,
+        };
+        match place {
+            Some(place) => Error::new(refused).context(place),
+            None => refused.into(),
+        }
     }
 
     fn destination(&self) -> Result<Picture> {
@@ -48,8 +86,8 @@ impl Make {
             (Some(path), _) => picture_file::load(path),
             (None, Some(path)) => {
                 let below = Folder::open(path)?;
-                let words = below.finished()?.list().to_vec();
-                Ok(Picture { width: below.width, height: below.height, channels: 4, words })
+                let words = below.finished()?;
+                Ok(Picture { width: below.width(), height: below.height(), channels: 4, words })
             }
             (None, None) => unreachable!("clap asks for one of them"),
         }
@@ -58,17 +96,11 @@ impl Make {
     fn lines(&self) -> Result<Vec<Line>> {
         let mut lines = vec![];
         for (k, text) in self.layer.iter().enumerate() {
-            lines.push(text.parse().with_context(|| format!("--layer number {k}"))?);
+            let place = format!("--layer number {}", k + 1);
+            lines.push(Line::read(text, &place).with_context(|| Ended::new(Exit::Words, &place))?);
         }
         if let Some(path) = &self.layers {
-            let text = std::fs::read_to_string(path).with_context(|| path.display().to_string())?;
-            let beside = path.parent().unwrap_or(Path::new(""));
-            let blank = |text: &str| text.trim().is_empty() || text.starts_with('#');
-            for (n, text) in text.lines().enumerate().filter(|(_, text)| !blank(text)) {
-                let mut line: Line = text.parse().with_context(|| format!("{} line {}", path.display(), n + 1))?;
-                line.picture = beside.join(&line.picture);
-                lines.push(line);
-            }
+            lines.extend(layers_file::read(path)?);
         }
         Ok(lines)
     }
@@ -85,7 +117,7 @@ impl Sources {
     fn place(&mut self, line: &Line) -> Result<Layer> {
         let source = match self.places.get(&line.picture) {
             Some(source) => *source,
-            None => self.load(&line.picture)?,
+            None => self.load(&line.picture).with_context(|| line.place.clone())?,
         };
         Ok(Layer { source, ..line.layer.clone() })
     }
@@ -102,23 +134,4 @@ impl Sources {
         self.places.insert(path.to_path_buf(), source);
         Ok(source)
     }
-}
-
-/// The library's own word on the inputs: a call without stores.
-fn accepted(dst: &Picture, stack: &Stack, samples: &[u32]) -> Result<()> {
-    let inputs = Inputs {
-        width: dst.width as i64,
-        height: dst.height as i64,
-        channels: dst.channels as i64,
-        dst: &dst.words,
-        layers: stack.layers(),
-        table: &stack.table,
-        args: &stack.args,
-        samples,
-    };
-    let words = 4 * dst.width * dst.height;
-    let (mut work0, mut work1) = (vec![0; words], vec![0; words]);
-    let progress = tray::job(&inputs, 0, Memory { work0: &mut work0, work1: &mut work1, mark: &mut [0] })?;
-    ensure!(progress.stores == 0, "a call without an allowance made stores");
-    Ok(())
 }

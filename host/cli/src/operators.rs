@@ -3,8 +3,9 @@
 use anyhow::{Context, Result};
 use clap::Args;
 use std::fmt::Write as _;
-use std::io::{self, ErrorKind, Write as _};
 use tray::Operator;
+use tray_cli::exit::Exit;
+use tray_cli::say::say;
 
 #[derive(Args)]
 pub struct Operators {
@@ -24,16 +25,13 @@ mathematics takes one that is not finite as it is.
 const INDENT: usize = 20;
 
 impl Operators {
-    pub fn print(self) -> Result<()> {
+    pub fn print(self) -> Result<Exit> {
         let text = match &self.names[..] {
             [] => Operator::ALL.into_iter().map(entry).collect::<String>() + "\n" + LEGEND,
             names => names.iter().map(|name| named(name)).collect::<Result<String>>()?,
         };
-        match io::stdout().write_all(text.as_bytes()) {
-            // Whoever reads has seen enough.
-            Err(error) if error.kind() == ErrorKind::BrokenPipe => Ok(()),
-            written => written.context("standard output"),
-        }
+        say(text.trim_end_matches('\n'))?;
+        Ok(Exit::Done)
     }
 }
 

@@ -5,26 +5,31 @@ use crate::{pfm, png_file};
 use anyhow::{bail, Context, Result};
 use std::path::Path;
 
+#[derive(Clone, Copy, Debug, PartialEq, Eq)]
 pub enum Format {
     Png,
     Pfm,
+    Tiff,
+    Raw,
 }
 
-/// The format that a file's name ends in.
-pub fn format(path: &Path) -> Result<Format> {
-    match path.extension().and_then(|end| end.to_str()).map(str::to_ascii_lowercase).as_deref() {
-        Some("png") => Ok(Format::Png),
-        Some("pfm") => Ok(Format::Pfm),
-        _ => bail!("{}: pictures are .png or .pfm", path.display()),
+/// The format that a file's name ends in, if it is one of these.
+pub fn format(path: &Path) -> Option<Format> {
+    match path.extension()?.to_str()?.to_ascii_lowercase().as_str() {
+        "png" => Some(Format::Png),
+        "pfm" => Some(Format::Pfm),
+        "tif" | "tiff" => Some(Format::Tiff),
+        "raw" => Some(Format::Raw),
+        _ => None,
     }
 }
 
 pub fn load(path: &Path) -> Result<Picture> {
-    let format = format(path)?;
+    let read = match format(path) {
+        Some(Format::Png) => png_file::read,
+        Some(Format::Pfm) => pfm::read,
+        _ => bail!("{}: pictures are read from .png or .pfm", path.display()),
+    };
     let bytes = std::fs::read(path).with_context(|| path.display().to_string())?;
-    match format {
-        Format::Png => png_file::read(&bytes),
-        Format::Pfm => pfm::read(&bytes),
-    }
-    .with_context(|| path.display().to_string())
+    read(&bytes).with_context(|| path.display().to_string())
 }

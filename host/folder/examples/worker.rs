@@ -95,8 +95,8 @@ fn act() -> Result<u8, Box<dyn Error>> {
         "run" => run(path, words),
         "status" => {
             let folder = Folder::open(path)?;
-            let (position, total) = (folder.position()?, folder.total());
-            println!("mark {position} of {total}{}", if position == total { ": finished" } else { "" });
+            let finished = if folder.is_finished()? { ": finished" } else { "" };
+            println!("mark {} of {}{finished}", folder.position()?, folder.total());
             Ok(0)
         }
         _ => Err(format!("{action} is neither make, run nor status").into()),
@@ -104,10 +104,12 @@ fn act() -> Result<u8, Box<dyn Error>> {
 }
 
 fn main() -> ExitCode {
-    act()
-        .unwrap_or_else(|error| {
-            eprintln!("worker: {error}");
-            1
-        })
-        .into()
+    let code = act().unwrap_or_else(|error| {
+        eprintln!("worker: {error}");
+        match error.downcast_ref::<tray_folder::Error>() {
+            Some(error) if error.is_storage() => 6,
+            _ => 1,
+        }
+    });
+    code.into()
 }

@@ -7,8 +7,10 @@ use crate::digest::digest;
 /// The text that stands before the numbers.
 const EDITION: &str = "tray-checkpoint-1";
 
-/// What a job's position rests on, as bytes.
+/// What a job's position rests on: the job itself, by its description, and pictures, as bytes.
 pub struct Pictures<'a> {
+    /// The text of the file `job`.
+    pub job: &'a str,
     /// The picture beneath; none in phase 0, where it is the destination.
     pub beneath: &'a [u8],
     /// The picture being written, up to the position.
@@ -26,7 +28,8 @@ impl Checkpoint {
     pub const START: Checkpoint = Checkpoint { position: 0, digest: 0 };
 
     pub fn new(position: u64, pictures: &Pictures) -> Self {
-        let parts = [position, digest(pictures.beneath), digest(pictures.written)];
+        let Pictures { job, beneath, written } = pictures;
+        let parts = [position, digest(job.as_bytes()), digest(beneath), digest(written)];
         Checkpoint { position, digest: digest(&parts.map(u64::to_le_bytes).concat()) }
     }
 
@@ -71,13 +74,14 @@ mod tests {
     #[test]
     fn there_and_back() {
         let (beneath, written) = (&[1, 2, 3][..], &[4][..]);
-        let pictures = Pictures { beneath, written };
+        let pictures = Pictures { job: "a", beneath, written };
         let made = Checkpoint::new(9, &pictures);
         assert_eq!(Checkpoint::parse(&made.text(), 9), Some(made));
         assert_eq!(Checkpoint::parse(&made.text(), 8), None);
         assert!(made.holds(&pictures));
-        assert!(!made.holds(&Pictures { beneath: &[1, 2, 4], written }));
-        assert!(!made.holds(&Pictures { beneath, written: &[] }));
+        assert!(!made.holds(&Pictures { job: "b", ..pictures }));
+        assert!(!made.holds(&Pictures { beneath: &[1, 2, 4], ..pictures }));
+        assert!(!made.holds(&Pictures { written: &[], ..pictures }));
         assert!(!Checkpoint { position: 8, ..made }.holds(&pictures));
         assert!(Checkpoint::START.holds(&pictures));
         for broken in

@@ -6,7 +6,6 @@
 //! table 75de40470c0e9ec4
 //! args 2beef07ef789fc9c
 //! samples 2bdf70b266e2504c
-//! names a28ae3f5ce951725
 //! job 5db1afcae18c38d0
 //! ```
 //!
@@ -18,7 +17,7 @@ use tray::{Inputs, LAYERS, SIDE};
 const EDITION: &str = "tray-job-2";
 
 /// The inputs' files, in the order of their digests.
-pub const INPUTS: [&str; 5] = ["dst", "table", "args", "samples", "names"];
+pub const INPUTS: [&str; 4] = ["dst", "table", "args", "samples"];
 
 #[derive(Clone, Debug, PartialEq)]
 pub struct Description {
@@ -91,14 +90,8 @@ mod tests {
 
     #[test]
     fn there_and_back_and_each_byte_counts() {
-        let job = Description {
-            width: 7,
-            height: 2048,
-            channels: 3,
-            layers: 16,
-            samples: 12,
-            digests: [0, 1, u64::MAX, 3, 4],
-        };
+        let job =
+            Description { width: 7, height: 2048, channels: 3, layers: 16, samples: 12, digests: [0, 1, u64::MAX, 3] };
         let text = job.text();
         assert_eq!(Description::parse(&text), Ok(job));
         for n in 0..text.len() {

@@ -1,12 +1,13 @@
-//! A digest of 64 bits, against accidents and not against forgers: a change of one word always changes it, a change of
-//! several keeps it in one case of 2^64. It is kept in job folders, so that it must stay what it is.
+//! A digest of 64 bits, against accidents and not against forgers: a change within one word always changes it, and changes of
+//! several words undo each other only by chance. It is kept in job folders, so that it must stay what it is.
 
 /// Odd, and with its bits well spread, so that a product with it is one-to-one and reaches the high bits.
 const FACTOR: u64 = 0x9e37_79b9_7f4a_7c15;
 
-/// One word into a lane. It is one-to-one in each of the two.
+/// One word into a lane. It is one-to-one in each of the two. A product takes no bit downwards: the second one, after the
+/// halves have changed places, does, so that no bits of the next word take a change of this one back in all cases.
 fn step(lane: u64, word: u64) -> u64 {
-    (lane ^ word).wrapping_mul(FACTOR).rotate_left(29)
+    (lane ^ word).wrapping_mul(FACTOR).rotate_left(32).wrapping_mul(FACTOR)
 }
 
 fn block(lanes: &mut [u64; 4], bytes: &[u8]) {
@@ -45,12 +46,19 @@ mod tests {
         swapped[..64].rotate_left(32);
         assert_ne!(digest(&swapped), whole, "the order of blocks");
         assert_ne!(digest(&[0; 32]), digest(&[0; 31]));
+        // A word's highest bit, and any one bit of the next word of its lane.
+        for bit in 0..64 {
+            let mut other = bytes.clone();
+            other[7] ^= 0x80;
+            other[32 + bit / 8] ^= 1 << (bit % 8);
+            assert_ne!(digest(&other), whole, "bit {bit}");
+        }
     }
 
     /// Job folders rest on it. These values were computed apart from this code.
     #[test]
     fn it_stays_what_it_is() {
-        assert_eq!(digest(b""), 0xa513_aaee_c95b_0cc5);
-        assert_eq!(digest(b"tray, thirty-two bytes and more than that"), 0x4873_4ebd_d2d7_c92c);
+        assert_eq!(digest(b""), 0xfa62_7077_48ee_c39e);
+        assert_eq!(digest(b"tray, thirty-two bytes and more than that"), 0xd777_90ff_22aa_ca9b);
     }
 }

@@ -20,7 +20,15 @@ pub enum Error {
     Refused(PathBuf, tray::Error<tray::Refusal>),
 }
 
+/// No room, no quota, or the device itself: `ENOSPC`, `EDQUOT`, `EIO`.
+const STORAGE: [i32; 3] = [28, 122, 5];
+
 impl Error {
+    /// Whether the storage failed; the job can be taken up when it serves again.
+    pub fn is_storage(&self) -> bool {
+        matches!(self, Error::System(_, error) if error.raw_os_error().map_or(false, |code| STORAGE.contains(&code)))
+    }
+
     pub(crate) fn wrong<T>(path: &Path, what: impl Into<String>) -> Result<T> {
         Err(Error::Wrong(path.to_path_buf(), what.into()))
     }

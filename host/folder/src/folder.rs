@@ -2,7 +2,7 @@
 //! for people), what calls write, `work0`, `work1` and `mark`, each list as it stands in memory, low byte first; `lock`, which
 //! the worker holds; and what a worker keeps for the one after it, `checkpoint` and `held` (checkpoint.rs, held.rs).
 
-use crate::beside::{is_at, sweep, Part};
+use crate::beside::{folder_of, is_a_parts_name, is_at, sweep, Part};
 use crate::checkpoint::{place, Checkpoint, Pictures};
 use crate::description::{Description, INPUTS};
 use crate::digest::digest;
@@ -11,10 +11,11 @@ use crate::list::List;
 use crate::system::bytes;
 use crate::{held, storage, system};
 use std::fs::{self, File, OpenOptions};
+use std::io::ErrorKind;
 use std::os::unix::fs::MetadataExt;
 use std::path::{Path, PathBuf};
 use std::{thread, time::Duration};
-use tray::{Fault, Inputs, Memory, ARGUMENTS, COLUMNS};
+use tray::{Fault, Inputs, Memory, Refusal, ARGUMENTS, COLUMNS};
 
 pub(crate) const WORK: [&str; 2] = ["work0", "work1"];
 pub(crate) const MARK: &str = "mark";
@@ -22,11 +23,10 @@ pub(crate) const CHECKPOINT: &str = "checkpoint";
 const JOB: &str = "job";
 const LOCK: &str = "lock";
 
-/// What a worker writes.
-pub(crate) const MEMORY: [&str; 3] = [WORK[0], WORK[1], MARK];
-
-/// Every file that a folder of a new job has.
-const NEW: [&str; 10] = [JOB, INPUTS[0], INPUTS[1], INPUTS[2], INPUTS[3], INPUTS[4], WORK[0], WORK[1], MARK, LOCK];
+/// What a worker writes, and what it rests on.
+const MEMORY: [&str; 3] = [WORK[0], WORK[1], MARK];
+const GIVEN: [&str; 6] = [JOB, LOCK, INPUTS[0], INPUTS[1], INPUTS[2], INPUTS[3]];
+const NAMES: &str = "names";
 
 /// A job folder that exists, by its numbers.
 #[derive(Clone, Debug, PartialEq)]
@@ -37,31 +37,28 @@ pub struct Folder {
 
 /// The worker's lock on a job.
 pub struct Lock {
-    _file: File,
+    file: File,
 }
 
 impl Folder {
-    /// Reads a folder's description. A folder two of whose files are one file (by links) is refused: a job's lists share
-    /// no memory.
+    /// Reads a folder's description. Its files must be its own: regular ones, with no name besides, since a job's lists
+    /// share no memory, neither with each other nor with another job's.
     pub fn open(path: &Path) -> Result<Self> {
-        let file = path.join(JOB);
-        let text = match fs::read(&file) {
-            Err(error) if error.kind() == std::io::ErrorKind::NotFound => return Error::wrong(path, "no job folder"),
-            read => String::from_utf8_lossy(&read.at(&file)?).into_owned(),
-        };
-        let job = Description::parse(&text).or_else(|what| Error::wrong(&file, what))?;
-        let mut seen: Vec<(&str, (u64, u64))> = vec![];
-        for name in NEW {
-            let data = fs::metadata(path.join(name)).at(&path.join(name))?;
-            let identity = (data.dev(), data.ino());
-            if let Some((other, _)) = seen.iter().find(|(_, other)| *other == identity) {
-                return Error::wrong(
-                    path,
-                    format!("{other} and {name} are one file, and a job's lists share no memory"),
-                );
+        for name in GIVEN.iter().chain(&MEMORY) {
+            let file = path.join(name);
+            let data = match fs::symlink_metadata(&file) {
+                Err(error) if *name == JOB && error.kind() == ErrorKind::NotFound => {
+                    return Error::wrong(path, "no job folder");
+                }
+                data => data.at(&file)?,
+            };
+            if !data.is_file() || data.nlink() > 1 {
+                return Error::wrong(&file, "a job's file is a regular one with no other name, and no link");
             }
-            seen.push((name, identity));
         }
+        let file = path.join(JOB);
+        let text = fs::read(&file).at(&file)?;
+        let job = Description::parse(&String::from_utf8_lossy(&text)).or_else(|what| Error::wrong(&file, what))?;
         Ok(Folder { path: path.to_path_buf(), job })
     }
 
@@ -73,10 +70,13 @@ impl Folder {
         if fs::symlink_metadata(path).is_ok() {
             return Error::wrong(path, "exists");
         }
-        let beside = path.parent().filter(|folder| *folder != Path::new("")).unwrap_or_else(|| Path::new("."));
-        fs::create_dir_all(beside).at(beside)?;
-        sweep(beside, &NEW);
-        let part = Part::new(beside)?;
+        if is_a_parts_name(path) {
+            return Error::wrong(path, "a name of jobs that are being made, which others would remove");
+        }
+        let beside = folder_of(path);
+        storage::make_folders(beside).at(beside)?;
+        sweep(beside, &[&MEMORY[..], &GIVEN, &[NAMES]].concat());
+        let part = Part::folder(beside).at(beside)?;
         fill(part.path(), inputs, names).map_err(|error| renamed(error, part.path(), path))?;
         part.becomes(path).at(path)?;
         storage::sync_folder(beside).at(beside)?;
@@ -131,10 +131,15 @@ impl Folder {
     /// How far the job is: the mark, which a worker may be raising, where it can be trusted; elsewhere the checkpoint that the
     /// pictures bear out. A mark beyond the job's end is refused as the library refuses it.
     pub fn position(&self) -> Result<u64> {
-        if !held::trusted(&self.path, MEMORY)? {
-            return Ok(self.checkpoint()?.position);
+        match held::trusted(&self.path, &self.here()?) {
+            true => self.mapped_mark(),
+            false => Ok(self.checkpoint()?.position),
         }
-        self.mapped_mark()
+    }
+
+    /// What `held` says where the folder is now.
+    pub(crate) fn here(&self) -> Result<String> {
+        held::here(&self.path, &MEMORY, &GIVEN)
     }
 
     /// The mark as its file has it.
@@ -142,30 +147,46 @@ impl Folder {
         let path = self.at(MARK);
         match fs::read(&path).at(&path)?.try_into().map(u64::from_ne_bytes) {
             Ok(mark) if mark <= self.total() => Ok(mark),
-            Ok(_) => Error::wrong(&self.path, Fault::Mark.to_string()),
+            Ok(_) => Err(Error::Refused(self.path.clone(), Refusal { fault: Fault::Mark, layer: 0 }.into())),
             Err(_) => Error::wrong(&path, "has not 8 bytes"),
         }
     }
 
-    /// The checkpoint that the storage has, if the pictures that it rests on are there; otherwise the beginning.
+    /// The checkpoint in the folder, whether its pictures are there or not; without one the beginning.
+    pub(crate) fn kept(&self) -> Result<Checkpoint> {
+        let path = self.at(CHECKPOINT);
+        let text = match fs::read(&path) {
+            Err(error) if error.kind() == ErrorKind::NotFound => vec![],
+            read => read.at(&path)?,
+        };
+        let kept = Checkpoint::parse(&String::from_utf8_lossy(&text), self.total());
+        Ok(kept.filter(|kept| kept.position != 0).unwrap_or(Checkpoint::START))
+    }
+
+    /// The checkpoint in the folder, if the pictures that it rests on are there, and the bytes of the picture beneath it;
+    /// otherwise the beginning.
+    fn borne_out(&self) -> Result<(Checkpoint, Vec<u8>)> {
+        let kept = self.kept()?;
+        let (beneath, writing, bytes) = place(kept.position, self.pixels() as u64);
+        let beneath = beneath.map_or(Ok(vec![]), |k| self.work_bytes(k))?;
+        let writing = if bytes == 0 { vec![] } else { self.work_bytes(writing)? };
+        let pictures = Pictures { job: &self.job.text(), beneath: &beneath, written: &writing[..bytes] };
+        Ok(if kept.holds(&pictures) { (kept, beneath) } else { (Checkpoint::START, vec![]) })
+    }
+
+    /// The checkpoint, as `borne_out` has it.
     pub(crate) fn checkpoint(&self) -> Result<Checkpoint> {
-        let text = fs::read(self.at(CHECKPOINT)).unwrap_or_default();
-        match Checkpoint::parse(&String::from_utf8_lossy(&text), self.total()) {
-            Some(kept) if kept.position != 0 => {
-                let (beneath, writing, bytes) = place(kept.position, self.pixels() as u64);
-                let read = |k: usize| List::<u32>::read(&self.at(WORK[k]), 4 * self.pixels());
-                let (beneath, writing) = (beneath.map(read).transpose()?, read(writing)?);
-                let beneath = beneath.as_ref().map_or(&[][..], List::bytes);
-                let pictures = Pictures { beneath, written: &writing.bytes()[..bytes] };
-                Ok(if kept.holds(&pictures) { kept } else { Checkpoint::START })
-            }
-            _ => Ok(Checkpoint::START),
-        }
+        Ok(self.borne_out()?.0)
+    }
+
+    /// The file `job`.
+    pub(crate) fn description(&self) -> String {
+        self.job.text()
     }
 
     /// A line for each layer, as it was given to `create`.
     pub fn names(&self) -> Result<Vec<String>> {
-        let path = self.at("names");
+        let path = self.at(NAMES);
         let text = fs::read(&path).at(&path)?;
         Ok(String::from_utf8_lossy(&text).lines().map(String::from).collect())
     }
@@ -190,14 +211,21 @@ impl Folder {
                 if !system::try_lock(&file, true).at(&path)? {
                     return Err(Error::Busy(self.path.clone()));
                 }
+                // Let go before the next try, or two who try would take each other for one who only asks.
+                drop(file);
                 thread::sleep(Duration::from_millis(1));
                 continue;
             }
             // Whoever waited may have got the lock of a folder that was removed meanwhile.
             if is_at(&file, &path) {
-                return Ok(Lock { _file: file });
+                return Ok(Lock { file });
             }
         }
+    }
+
+    /// Whether a lock is this folder's.
+    pub(crate) fn is_locked_by(&self, lock: &Lock) -> bool {
+        is_at(&lock.file, &self.at(LOCK))
     }
 
     /// The destination.
@@ -227,24 +255,41 @@ impl Folder {
         Ok(())
     }
 
-    /// What work buffer k mod 2 holds now. It is read and not mapped, since a worker may be writing it.
-    pub fn work_now(&self, k: usize) -> Result<Vec<u32>> {
+    /// The bytes of a work buffer now. They are read and not mapped, since a worker may be writing them.
+    fn work_bytes(&self, k: usize) -> Result<Vec<u8>> {
         let path = self.at(WORK[k % 2]);
         let bytes = fs::read(&path).at(&path)?;
-        if bytes.len() != 16 * self.pixels() {
-            return Error::wrong(&path, format!("has {} bytes, not {}", bytes.len(), 16 * self.pixels()));
+        match bytes.len() == 16 * self.pixels() {
+            true => Ok(bytes),
+            false => Error::wrong(&path, format!("has {} bytes, not {}", bytes.len(), 16 * self.pixels())),
         }
-        Ok(bytes.chunks_exact(4).map(|b| u32::from_ne_bytes([b[0], b[1], b[2], b[3]])).collect())
     }
 
-    /// The finished picture, which nobody writes any more.
-    pub fn finished(&self) -> Result<List<u32>> {
-        let (position, total) = (self.position()?, self.total());
-        if position != total {
-            return Error::wrong(&self.path, format!("not finished, {position} of {total} pixels"));
-        }
-        List::read(&self.at(WORK[self.job.layers % 2]), 4 * self.pixels())
+    /// What work buffer k mod 2 holds now.
+    pub fn work_now(&self, k: usize) -> Result<Vec<u32>> {
+        self.work_bytes(k).map(|bytes| words(&bytes))
     }
+
+    /// Whether the finished picture is there and stored: a worker has come to its end, and the picture is as it left it.
+    pub fn is_finished(&self) -> Result<bool> {
+        Ok(self.checkpoint()?.position == self.total())
+    }
+
+    /// The finished picture; these very bytes are the ones that the checkpoint's digest is of.
+    pub fn finished(&self) -> Result<Vec<u32>> {
+        let (kept, picture) = self.borne_out()?;
+        let total = self.total();
+        if kept.position == total {
+            return Ok(words(&picture));
+        }
+        let position = self.position()?;
+        let why = if position == total { "its end is not stored yet (a worker does it)" } else { "not finished" };
+        Error::wrong(&self.path, format!("{why}, {position} of {total} pixels"))
+    }
+}
+
+fn words(bytes: &[u8]) -> Vec<u32> {
+    bytes.chunks_exact(4).map(|b| u32::from_le_bytes([b[0], b[1], b[2], b[3]])).collect()
 }
 
 /// The library's own word on the inputs: a call without stores.
@@ -262,19 +307,20 @@ fn accepted(inputs: &Inputs) -> std::result::Result<(), tray::Error<tray::Refusa
 fn fill(part: &Path, inputs: &Inputs, names: &[String]) -> Result<()> {
     let Inputs { dst, table, args, samples, .. } = *inputs;
     let names = names.join("\n");
-    let lists = [bytes(dst), bytes(table), bytes(args), bytes(samples), names.as_bytes()];
+    let lists = [bytes(dst), bytes(table), bytes(args), bytes(samples)];
     let job = Description::new(inputs, lists.map(digest));
     let write = |name: &str, bytes: &[u8]| storage::write(&part.join(name), bytes).at(&part.join(name));
     for (name, list) in INPUTS.iter().zip(lists) {
         write(name, list)?;
     }
+    write(NAMES, names.as_bytes())?;
     write(MARK, &0u64.to_le_bytes())?;
     write(LOCK, b"")?;
     write(JOB, job.text().as_bytes())?;
     for name in WORK {
         let path = part.join(name);
         let room = || {
-            let file = File::create(&path)?;
+            let file = OpenOptions::new().read(true).write(true).create_new(true).open(&path)?;
             system::allocate(&file, 16 * (job.width * job.height) as u64)?;
             file.sync_all()
         };

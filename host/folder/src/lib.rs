@@ -11,8 +11,8 @@
 //! For Linux: it asks the kernel for the boot. No dependencies besides the crate `tray`; all unsafe code in src/system.rs.
 #![deny(missing_docs)]
 
-#[cfg(not(all(target_os = "linux", target_pointer_width = "64", target_endian = "little")))]
-compile_error!("a job's lists are kept as 64-bit Linux has them in memory, low byte first");
+#[cfg(not(all(target_os = "linux", target_endian = "little", any(target_arch = "x86_64", target_arch = "aarch64"))))]
+compile_error!("src/system.rs has the numbers of Linux on x86-64 and aarch64, and lists are kept low byte first");
 
 mod beside;
 mod checkpoint;
@@ -22,6 +22,7 @@ mod error;
 mod folder;
 mod held;
 mod list;
+mod replace;
 mod storage;
 mod system;
 mod worker;
@@ -29,5 +30,6 @@ mod worker;
 pub use error::{Error, Result};
 pub use folder::{Folder, Lock};
 pub use list::List;
+pub use replace::replace_file;
 pub use system::on_storage_failure;
 pub use worker::{Durable, TakenUp, Worker};

@@ -1,5 +1,6 @@
 //! Files that the storage has before anything rests on them.
 
+use crate::beside::folder_of;
 use std::fs::{self, File};
 use std::io::{self, Write};
 use std::path::Path;
@@ -14,6 +15,14 @@ pub fn write(path: &Path, bytes: &[u8]) -> io::Result<()> {
 /// Waits until the storage has a folder's names.
 pub fn sync_folder(path: &Path) -> io::Result<()> {
     File::open(path)?.sync_all()
+}
+
+/// A folder, and those above it that are not there yet, with their names stored.
+pub fn make_folders(path: &Path) -> io::Result<()> {
+    let missing = |folder: &&Path| !folder.as_os_str().is_empty() && !folder.exists();
+    let new: Vec<&Path> = path.ancestors().take_while(missing).collect();
+    fs::create_dir_all(path)?;
+    new.into_iter().try_for_each(|folder| sync_folder(folder_of(folder)))
 }
 
 /// Puts a file in place of another: whenever the power goes, the storage has the old one or the new one, whole; when this

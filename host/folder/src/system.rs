@@ -2,9 +2,10 @@
 //! this crate. The numbers are Linux's.
 
 use std::ffi::c_void;
-use std::fs::File;
+use std::fs::{self, File};
 use std::io;
 use std::mem::size_of;
+use std::os::unix::fs::MetadataExt;
 use std::os::unix::io::AsRawFd;
 use std::ptr;
 use std::slice;
@@ -123,7 +124,8 @@ pub fn lock(file: &File) -> io::Result<()> {
     }
 }
 
-/// Has the storage keep room for the file's first `bytes` bytes.
+/// Has the storage keep room for the file's first `bytes` bytes. Where the file system cannot, the C library reads and writes a
+/// byte of each block, so that the file must be open for both.
 pub fn allocate(file: &File, bytes: u64) -> io::Result<()> {
     match bytes {
         0 => Ok(()),
@@ -134,16 +136,17 @@ pub fn allocate(file: &File, bytes: u64) -> io::Result<()> {
     }
 }
 
-/// The number of the mount that a file was opened on. Linux 6.8 and later never give a number twice; earlier ones may give it
-/// to a later mount. 0 where the kernel does not tell (before 5.8).
-pub fn mount(file: &File) -> u64 {
+/// The number of the mount that a file was opened on, if no other has it in this boot. Linux 6.8 and later never give a number
+/// twice; earlier ones give it to the next mount, so that there it counts only on the device of `/`, which stays mounted.
+pub fn mount(file: &File) -> Option<u64> {
     // The answer is a record of 256 bytes; the mask of what it has stands first, the mount's number at byte 144.
     let asked = |mask: u32| {
         let mut answer = [0; 32];
         let failed = unsafe { statx(file.as_raw_fd(), b"\0".as_ptr(), AT_EMPTY_PATH, mask, answer.as_mut_ptr()) };
         (failed == 0 && answer[0] as u32 & mask != 0).then(|| answer[18])
     };
-    asked(STATX_MNT_ID_UNIQUE).or_else(|| asked(STATX_MNT_ID)).unwrap_or(0)
+    let stays = || Some(file.metadata().ok()?.dev() == fs::metadata("/").ok()?.dev());
+    asked(STATX_MNT_ID_UNIQUE).or_else(|| stays().filter(|stays| *stays).and_then(|_| asked(STATX_MNT_ID)))
 }
 
 static LINE: AtomicPtr<u8> = AtomicPtr::new(ptr::null_mut());

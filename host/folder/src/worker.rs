@@ -3,10 +3,10 @@
 
 use crate::checkpoint::{place, Checkpoint, Pictures};
 use crate::error::{At, Error, Result};
-use crate::folder::{Folder, Lock, CHECKPOINT, MARK, MEMORY, WORK};
+use crate::folder::{Folder, Lock, CHECKPOINT, MARK, WORK};
 use crate::list::List;
 use crate::{held, storage, system};
-use std::fs::OpenOptions;
+use std::fs::{self, OpenOptions};
 use tray::{Inputs, Memory, Progress};
 
 /// How much of a job a loss of power takes back.
@@ -21,10 +21,10 @@ pub enum Durable {
 /// Where a worker has taken a job up.
 #[derive(Clone, Copy, Debug, PartialEq, Eq)]
 pub enum TakenUp {
-    /// At the mark, as the worker before it left it.
+    /// At the mark that it found.
     Mark,
-    /// At the checkpoint, in another boot, on another mount or in a copy; or at the beginning, where there was none whose
-    /// pictures are there.
+    /// At the checkpoint and not at the mark, in another boot, on another mount or in a copy; or at the beginning, where there
+    /// was none whose pictures are there.
     Checkpoint(u64),
 }
 
@@ -40,6 +40,8 @@ pub struct Worker {
     mark: List<u64>,
     /// What the storage has.
     checkpoint: Checkpoint,
+    /// What the folder was when it was taken up.
+    here: String,
     taken_up: TakenUp,
     _lock: Lock,
 }
@@ -49,13 +51,17 @@ impl Worker {
     pub fn new(folder: &Folder, lock: Lock, durable: Durable) -> Result<Self> {
         // It may have been made anew while this worker waited.
         let folder = Folder::open(folder.path())?;
+        if !folder.is_locked_by(&lock) {
+            return Err(Error::Busy(folder.path().to_path_buf()));
+        }
+        let here = folder.here()?;
         let (dst, table, args, samples) = (folder.dst()?, folder.table()?, folder.args()?, folder.samples()?);
         folder.unchanged([dst.bytes(), table.bytes(), args.bytes(), samples.bytes()])?;
         let work = |k: usize| {
             let path = folder.at(WORK[k]);
             let list = List::write(&path, 4 * folder.pixels())?;
-            let file = OpenOptions::new().write(true).open(&path).at(&path)?;
             // A copy may have holes where the job that it was made of had none.
+            let file = OpenOptions::new().read(true).write(true).open(&path).at(&path)?;
             system::allocate(&file, 16 * folder.pixels() as u64).at(&path)?;
             Ok(list)
         };
@@ -65,26 +71,36 @@ impl Worker {
         let checkpoint = folder.checkpoint()?;
         let taken_up = TakenUp::Mark;
         let mut worker =
-            Worker { folder, durable, dst, table, args, samples, work, mark, checkpoint, taken_up, _lock: lock };
+            Worker { folder, durable, dst, table, args, samples, work, mark, checkpoint, here, taken_up, _lock: lock };
         worker.take_up()?;
         Ok(worker)
     }
 
-    /// Sees where the job stands. A mark that cannot be trusted is set to the checkpoint before it is called trusted again.
+    /// Sees where the job stands. A mark that cannot be trusted is set to the checkpoint before it is called trusted again;
+    /// and the pictures of that checkpoint are stored, which in a copy they may not be.
     fn take_up(&mut self) -> Result<()> {
         let path = self.folder.path();
-        if held::trusted(path, MEMORY)? {
-            return self.folder.mapped_mark().map(drop);
+        if held::trusted(path, &self.here) && !self.belied()? {
+            return Ok(());
         }
         let Checkpoint { position, .. } = self.checkpoint;
         if self.mark() != position {
             self.taken_up = TakenUp::Checkpoint(position);
         }
         self.mark.list_mut()[0] = position;
-        match held::here(path, MEMORY)? {
-            Some(here) => storage::replace(path, held::NAME, &here).at(path),
-            None => Ok(()),
+        if position != 0 {
+            self.store()?;
         }
+        storage::replace(self.folder.path(), held::NAME, &self.here).at(&self.folder.at(held::NAME))
+    }
+
+    /// Whether the checkpoint belies the mark: a phase leaves the pictures of a checkpoint within it as they are, so that
+    /// one in the mark's phase, not beyond the mark, holds, or the memory is not what the last worker left.
+    fn belied(&self) -> Result<bool> {
+        let mark = self.folder.mapped_mark()?;
+        let kept = self.folder.kept()?;
+        let same = self.folder.phase(kept.position).0 == self.folder.phase(mark).0;
+        Ok(same && kept.position <= mark && kept != self.checkpoint)
     }
 
     /// Where it has taken the job up.
@@ -131,18 +147,30 @@ impl Worker {
         }
     }
 
-    /// Stores the pictures that the mark rests on, and then the mark with their digest.
+    /// Stores the pictures that the mark rests on, and then the mark with their digest; of a folder that is still the one
+    /// that was taken up, with the inputs that it had then.
     fn store(&mut self) -> Result<()> {
+        if self.folder.here()? != self.here {
+            return Error::wrong(self.folder.path(), "replaced, or its inputs changed, while a worker had it");
+        }
         let (beneath, writing, bytes) = place(self.mark(), self.folder.pixels() as u64);
         let beneath = beneath.map(|k| &self.work[k]);
         let writing = &self.work[writing];
-        beneath.map_or(Ok(()), List::sync)?;
-        if bytes != 0 {
-            writing.sync()?;
+        // The storage may also have failed to take an earlier picture, which these were made of: both are asked for.
+        let synced = self.work.iter().try_for_each(List::sync);
+        if synced.is_err() {
+            // Pages that the storage did not take may be gone from memory too: from here on the checkpoint alone counts.
+            self.mark.list_mut()[0] = self.checkpoint.position;
+            let _ = fs::remove_file(self.folder.at(held::NAME));
+            return synced;
         }
-        let pictures = Pictures { beneath: beneath.map_or(&[], List::bytes), written: &writing.bytes()[..bytes] };
-        self.checkpoint = Checkpoint::new(self.mark(), &pictures);
-        storage::replace(self.folder.path(), CHECKPOINT, &self.checkpoint.text()).at(&self.folder.at(CHECKPOINT))
+        let written = &writing.bytes()[..bytes];
+        let job = &self.folder.description();
+        let pictures = Pictures { job, beneath: beneath.map_or(&[], List::bytes), written };
+        let checkpoint = Checkpoint::new(self.mark(), &pictures);
+        storage::replace(self.folder.path(), CHECKPOINT, &checkpoint.text()).at(&self.folder.at(CHECKPOINT))?;
+        self.checkpoint = checkpoint;
+        Ok(())
     }
 
     /// Ends the worker's part: what it has done is stored when this returns.

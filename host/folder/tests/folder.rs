@@ -3,8 +3,9 @@
 
 use std::fs::{self, OpenOptions};
 use std::io::{Read, Seek, SeekFrom, Write};
-use std::os::unix::fs::symlink;
+use std::os::unix::fs::{symlink, MetadataExt};
 use std::path::{Path, PathBuf};
+use std::sync::atomic::{AtomicUsize, Ordering};
 use std::thread;
 use std::time::Duration;
 use tray::{Inputs, Layer, Source, Stack};
@@ -28,9 +29,15 @@ fn room(name: &str) -> PathBuf {
 }
 
 fn make(path: &Path) -> Folder {
+    make_with(path, 2)
+}
+
+/// A job whose layers lie so many pixels further down.
+fn make_with(path: &Path, down: i64) -> Folder {
     let words: Vec<u32> = (0..4 * WIDTH * HEIGHT).map(|n| ((n * 7919 % 1000) as f32 / 1000.0).to_bits()).collect();
     let source = Source { first: 0, width: WIDTH as i64, height: HEIGHT as i64, channels: 4 };
-    let layer = |name: &str| Layer { offset: (1, 2), ..Layer::new(tray::from_name(name.as_bytes()).unwrap(), source) };
+    let layer =
+        |name: &str| Layer { offset: (1, down), ..Layer::new(tray::from_name(name.as_bytes()).unwrap(), source) };
     let stack = Stack::new(&["over", "plus", "xor"].map(layer));
     let inputs = Inputs {
         width: WIDTH as i64,
@@ -52,7 +59,7 @@ fn worker(folder: &Folder, durable: Durable) -> Worker {
 /// Calls until the mark is raised by `pixels`, or the job is finished.
 fn go_on(worker: &mut Worker, mut pixels: u64) {
     while pixels != 0 {
-        let progress = worker.call(5 * pixels).unwrap();
+        let progress = worker.call(pixels.saturating_mul(5)).unwrap();
         pixels -= progress.stores / 5;
         if progress.finished {
             return;
@@ -65,7 +72,7 @@ fn finish(folder: &Folder) -> Vec<u32> {
     let mut last = worker(folder, Durable::Phase);
     go_on(&mut last, u64::MAX);
     last.stop().unwrap();
-    folder.finished().unwrap().list().to_vec()
+    folder.finished().unwrap()
 }
 
 fn copy(from: &Path, to: &Path) -> Folder {
@@ -158,7 +165,7 @@ fn files_of_different_moments() {
     go_on(&mut first, u64::MAX);
     first.stop().unwrap();
     for folder in [early, mixed] {
-        assert_eq!(finish(&folder), Folder::open(&room.join("job")).unwrap().finished().unwrap().list());
+        assert_eq!(finish(&folder), Folder::open(&room.join("job")).unwrap().finished().unwrap());
     }
 }
 
@@ -168,7 +175,7 @@ fn a_finished_picture_that_was_damaged_is_not_called_finished() {
     let folder = make(&room.join("job"));
     let whole = finish(&folder);
     let elsewhere = copy(folder.path(), &room.join("copy"));
-    assert_eq!(elsewhere.finished().unwrap().list(), whole);
+    assert_eq!(elsewhere.finished().unwrap(), whole);
     for name in ["work1", "checkpoint", "mark"] {
         let damaged = copy(folder.path(), &room.join(name));
         change_byte(&damaged.path().join(name), 5);
@@ -177,41 +184,173 @@ fn a_finished_picture_that_was_damaged_is_not_called_finished() {
     }
     fs::remove_file(elsewhere.path().join("checkpoint")).unwrap();
     assert_eq!(elsewhere.position().unwrap(), 0);
+    // Where the mark is trusted too: the checkpoint belies it.
+    change_byte(&folder.path().join("work1"), 3210);
+    assert!(!folder.is_finished().unwrap());
+    assert_eq!(finish(&folder), whole);
+}
+
+/// The same in the middle: the pictures of a checkpoint in the mark's phase hold, or the job begins anew.
+#[test]
+fn memory_that_was_damaged_under_its_mark() {
+    let room = room("under_mark");
+    let whole = finish(&make(&room.join("whole")));
+    for (name, byte) in [("work0", 4000), ("work1", 16)] {
+        let folder = make(&room.join(name));
+        let mut first = worker(&folder, Durable::Phase);
+        go_on(&mut first, PIXELS + 99);
+        first.stop().unwrap();
+        go_on(&mut worker(&folder, Durable::Phase), 50);
+        change_byte(&folder.path().join(name), byte);
+        let next = worker(&folder, Durable::Phase);
+        assert_eq!(next.taken_up(), TakenUp::Checkpoint(0), "{name}");
+        drop(next);
+        assert_eq!(finish(&folder), whole, "{name}");
+    }
 }
 
 #[test]
 fn changed_inputs() {
     let room = room("changed");
     let folder = make(&room.join("job"));
-    go_on(&mut worker(&folder, Durable::Phase), 300);
+    let whole = finish(&make(&room.join("whole")));
     for name in ["dst", "table", "args", "samples"] {
+        go_on(&mut worker(&folder, Durable::Phase), 100);
         let path = folder.path().join(name);
         change_byte(&path, 40);
         let said = says(Worker::new(&folder, folder.lock(false).unwrap(), Durable::Phase));
         assert!(said.starts_with(&format!("{}: changed since the job was made", path.display())), "{said}");
         change_byte(&path, 40);
     }
-    assert_eq!(folder.position().unwrap(), 300);
-    finish(&folder);
+    assert_eq!(finish(&folder), whole);
+}
+
+/// An input that changes while a worker has it: what was made of it is never called finished, nor taken up.
+#[test]
+fn changed_under_a_worker() {
+    let room = room("under");
+    let whole = finish(&make(&room.join("whole")));
+    for (name, durable) in [("samples", Durable::Phase), ("dst", Durable::End), ("table", Durable::Phase)] {
+        let folder = make(&room.join(name));
+        let mut first = worker(&folder, durable);
+        go_on(&mut first, PIXELS - 1);
+        // Of the table this is the first layer's offset.
+        change_byte(&folder.path().join(name), 16);
+        let mut worked = || loop {
+            if first.call(u64::MAX)?.finished {
+                return Ok(());
+            }
+        };
+        let said = says(worked().and_then(|()| first.stop()));
+        assert!(said.ends_with("replaced, or its inputs changed, while a worker had it"), "{said}");
+        assert!(!folder.is_finished().unwrap());
+        change_byte(&folder.path().join(name), 16);
+        assert_eq!(finish(&folder), whole, "{name}");
+    }
+}
+
+/// A backup that is written over a job keeps its files' numbers, and brings the older `held` along.
+#[test]
+fn a_backup_written_over_a_job() {
+    let room = room("backup");
+    let folder = make(&room.join("job"));
+    let mut first = worker(&folder, Durable::Phase);
+    go_on(&mut first, 2 * PIXELS + 99);
+    copy(folder.path(), &room.join("backup"));
+    go_on(&mut first, PIXELS);
+    // The backup had the mark of a later moment.
+    fs::copy(folder.path().join("mark"), room.join("backup/mark")).unwrap();
+    go_on(&mut first, u64::MAX);
+    first.stop().unwrap();
+    let whole = folder.finished().unwrap();
+    for entry in fs::read_dir(room.join("backup")).unwrap().map(Result::unwrap) {
+        fs::write(folder.path().join(entry.file_name()), fs::read(entry.path()).unwrap()).unwrap();
+    }
+    assert_eq!(folder.position().unwrap(), 2 * PIXELS);
+    assert_eq!(finish(&folder), whole);
+}
+
+/// The mark counts in no other file than the one that it was written in, nor with other work buffers.
+#[test]
+fn another_file_of_the_same_name() {
+    let room = room("another");
+    for name in ["work0", "work1", "mark", "job", "lock", "samples"] {
+        let folder = make(&room.join(name));
+        go_on(&mut worker(&folder, Durable::Phase), PIXELS + 99);
+        assert_eq!(folder.position().unwrap(), PIXELS + 99);
+        fs::copy(folder.path().join(name), folder.path().join("new")).unwrap();
+        fs::rename(folder.path().join("new"), folder.path().join(name)).unwrap();
+        assert_eq!(folder.position().unwrap(), PIXELS, "{name}");
+    }
+    let held = fs::read_to_string(room.join("mark/held")).unwrap();
+    let boot = fs::read_to_string("/proc/sys/kernel/random/boot_id").unwrap();
+    assert!(held.contains(&format!("\nboot {}\n", boot.trim())), "{held}");
+}
+
+/// Pictures and checkpoint of one job are nothing in another.
+#[test]
+fn another_jobs_checkpoint() {
+    let room = room("foreign");
+    let (one, other) = (make(&room.join("one")), make_with(&room.join("other"), 3));
+    finish(&one);
+    for name in ["work0", "work1", "mark", "checkpoint"] {
+        fs::copy(one.path().join(name), other.path().join(name)).unwrap();
+    }
+    assert_eq!(other.position().unwrap(), 0);
+    assert!(!other.is_finished().unwrap());
 }
 
 #[test]
-fn two_names_of_one_file() {
-    let room = room("shared");
-    for (n, (one, other)) in
-        [("work0", "work1"), ("dst", "work0"), ("work1", "samples"), ("mark", "lock")].iter().enumerate()
-    {
+fn a_folder_that_is_replaced_under_a_worker() {
+    let room = room("replaced");
+    let folder = make(&room.join("job"));
+    let mut first = worker(&folder, Durable::Phase);
+    go_on(&mut first, PIXELS);
+    fs::rename(folder.path(), room.join("away")).unwrap();
+    make(folder.path());
+    assert!(says(first.call(u64::MAX)).ends_with("replaced, or its inputs changed, while a worker had it"));
+    assert!(!folder.path().join("checkpoint").exists());
+    // A lock of the folder that is away is none of the new one.
+    drop(first);
+    let away = Folder::open(&room.join("away")).unwrap().lock(false).unwrap();
+    assert!(matches!(Worker::new(&folder, away, Durable::Phase), Err(Error::Busy(_))));
+}
+
+#[test]
+fn links_are_refused() {
+    let room = room("links");
+    for (n, name) in ["work0", "work1", "mark", "lock", "dst", "samples", "job"].iter().enumerate() {
         for hard in [false, true] {
             let path = room.join(format!("job{n}{hard}"));
             make(&path);
-            fs::remove_file(path.join(other)).unwrap();
+            let other = room.join(format!("other{n}{hard}"));
+            fs::rename(path.join(name), &other).unwrap();
             match hard {
-                true => fs::hard_link(path.join(one), path.join(other)).unwrap(),
-                false => symlink(one, path.join(other)).unwrap(),
+                true => fs::hard_link(&other, path.join(name)).unwrap(),
+                false => symlink(&other, path.join(name)).unwrap(),
             }
-            assert!(says(Folder::open(&path)).contains(" are one file, and a job's lists share no memory"));
+            assert!(says(Folder::open(&path))
+                .ends_with(&format!("{name}: a job's file is a regular one with no other name, and no link")));
         }
     }
+}
+
+/// The storage keeps room for the work buffers, in a copy with holes too.
+#[test]
+fn room_is_kept() {
+    let room = room("room");
+    let kept = |folder: &Folder| {
+        let data = ["work0", "work1"].map(|name| fs::metadata(folder.path().join(name)).unwrap());
+        data.iter().all(|data| data.blocks() * 512 >= data.len() && data.len() == 16 * PIXELS)
+    };
+    let folder = make(&room.join("job"));
+    assert!(kept(&folder));
+    for name in ["work0", "work1"] {
+        fs::File::create(folder.path().join(name)).unwrap().set_len(16 * PIXELS).unwrap();
+    }
+    assert!(!kept(&folder));
+    worker(&folder, Durable::Phase);
+    assert!(kept(&folder));
 }
 
 #[test]
@@ -228,6 +367,9 @@ fn a_damaged_description() {
     fs::write(path.join("job"), b"\xff\xfe").unwrap();
     assert!(says(Folder::open(&path)).ends_with(": not a job of edition tray-job-2"));
     fs::remove_file(path.join("job")).unwrap();
+    fs::create_dir(path.join("job")).unwrap();
+    assert!(says(Folder::open(&path)).ends_with("job: a job's file is a regular one with no other name, and no link"));
+    fs::remove_dir(path.join("job")).unwrap();
     assert_eq!(says(Folder::open(&path)), format!("{}: no job folder", path.display()));
 }
 
@@ -241,6 +383,29 @@ fn a_mark_beyond_the_end() {
     assert!(says(Worker::new(&folder, folder.lock(false).unwrap(), Durable::Phase)).contains("refused: 10 MARK"));
     fs::write(folder.path().join("mark"), [0; 7]).unwrap();
     assert!(says(folder.position()).ends_with("mark: has not 8 bytes"));
+}
+
+/// Workers who try and people who ask, all at once: somebody has it soon.
+#[test]
+fn many_try_at_once() {
+    let room = room("many");
+    let folder = make(&room.join("job"));
+    let had = AtomicUsize::new(0);
+    thread::scope(|scope| {
+        for n in 0..8 {
+            let (folder, had) = (&folder, &had);
+            scope.spawn(move || {
+                for _ in 0..20 {
+                    if n < 4 {
+                        folder.has_worker().unwrap();
+                    } else if let Ok(_lock) = folder.lock(false) {
+                        had.fetch_add(1, Ordering::Relaxed);
+                    }
+                }
+            });
+        }
+    });
+    assert_ne!(had.into_inner(), 0);
 }
 
 #[test]
@@ -277,4 +442,12 @@ fn a_folder_that_exists_and_what_killed_makers_leave() {
     make(&room.join("job"));
     assert!(!left.exists() && not_ours.join("notes").exists() && room.join(".tray-3").exists());
     assert!(fs::read_dir(&room).unwrap().count() == 3, "something is left");
+    let inputs = Inputs { width: 0, height: 0, channels: 4, dst: &[], layers: 0, table: &[], args: &[], samples: &[] };
+    assert!(says(Folder::create(&room.join("no"), &inputs, &[])).contains("refused: 1 STACK"));
+    let layer = Stack::new(&[Layer::new(tray::Operator::Over, Source { first: 0, width: 0, height: 0, channels: 4 })]);
+    let empty = Inputs { layers: 1, table: &layer.table, args: &layer.args, ..inputs };
+    assert!(says(Folder::create(&room.join("job"), &empty, &[])).ends_with("job: exists"));
+    assert!(says(Folder::create(&room.join(".tray-1-2"), &empty, &[])).contains("a name of jobs that are being made"));
+    let folder = Folder::create(&room.join("new/folders/empty"), &empty, &[]).unwrap();
+    assert!(finish(&folder).is_empty());
 }

@@ -1,12 +1,26 @@
 //! Draws the pictures of the demonstration: an empty 96-well tray, the wells' own pictures, each a disc of a soil extract
 //! whose blue grows with its phosphate, and six files of sixteen layers that lay them, two columns each.
-//!
-//!     wells FOLDER
 
 use anyhow::{Context, Result};
+use clap::Parser;
 use std::fs::{self, File};
-use std::path::Path;
+use std::io::Write;
+use std::path::{Path, PathBuf};
+use std::process::ExitCode;
+use tray_cli::exit::{self, Exit};
+use tray_cli::say::say;
 use tray_cli::{pfm, png_file};
+
+#[derive(Parser)]
+#[command(
+    name = "wells",
+    version,
+    about = "Draws the pictures of the demonstration: tray.png, an empty 96-well tray; well_A01.png to well_H12.png (some rows are .pfm), a disc of soil extract each; layers_1.txt to layers_6.txt, which lay them for `tray make --layers`"
+)]
+struct Wells {
+    /// The folder to draw into; it is made if it is not there
+    folder: PathBuf,
+}
 
 const COLUMNS: usize = 12;
 const ROWS: usize = 8;
@@ -88,22 +102,26 @@ fn draw_well(folder: &Path, column: usize, row: usize) -> Result<String> {
         let name = name + ".pfm";
         let over_white = |(colour, cover): ([f32; 3], f32)| colour.map(|v| (cover * v + (1.0 - cover)).to_bits());
         let words: Vec<u32> = drawn.flat_map(over_white).collect();
-        pfm::write(File::create(folder.join(&name))?, WELL, WELL, 3, &words)?;
+        pfm::write(create(folder, &name)?, WELL, WELL, 3, &words)?;
         return Ok(name);
     }
     let name = name + ".png";
     let bytes: Vec<u8> = drawn.flat_map(|([r, g, b], a)| [r, g, b, a].map(byte)).collect();
-    png_file::write(File::create(folder.join(&name))?, WELL, WELL, 4, &bytes)?;
+    png_file::write(create(folder, &name)?, WELL, WELL, 4, png_file::Depth::Eight, &bytes)?;
     Ok(name)
 }
 
-fn main() -> Result<()> {
-    let folder = std::env::args().nth(1).context("usage: wells FOLDER")?;
-    let folder = Path::new(&folder);
-    fs::create_dir_all(folder)?;
+fn create(folder: &Path, name: &str) -> Result<File> {
+    let path = folder.join(name);
+    File::create(&path).with_context(|| path.display().to_string())
+}
+
+fn draw(words: Wells) -> Result<Exit> {
+    let folder = &words.folder;
+    fs::create_dir_all(folder).with_context(|| folder.display().to_string())?;
     let (width, height) = (COLUMNS * PITCH + 2 * MARGIN, ROWS * PITCH + 2 * MARGIN);
     let tray: Vec<u8> = pixels(width, height).flat_map(|(x, y)| plate(x, y, width, height).map(byte)).collect();
-    png_file::write(File::create(folder.join("tray.png"))?, width, height, 3, &tray)?;
+    png_file::write(create(folder, "tray.png")?, width, height, 3, png_file::Depth::Eight, &tray)?;
     for job in 0..COLUMNS / 2 {
         let mut lines = String::new();
         for (column, row) in (2 * job..2 * job + 2).flat_map(|column| (0..ROWS).map(move |row| (column, row))) {
@@ -113,8 +131,13 @@ fn main() -> Result<()> {
             let operator = OPERATORS[row].to_ascii_lowercase();
             lines += &format!("{operator} {name} at={},{}\n", at(column), at(row));
         }
-        fs::write(folder.join(format!("layers_{}.txt", job + 1)), lines)?;
+        create(folder, &format!("layers_{}.txt", job + 1))?.write_all(lines.as_bytes())?;
     }
-    println!("{}: the empty tray, {} wells, {} lists of layers", folder.display(), COLUMNS * ROWS, COLUMNS / 2);
-    Ok(())
+    let (wells, lists) = (COLUMNS * ROWS, COLUMNS / 2);
+    say(format!("{}: the empty tray, {wells} wells, {lists} lists of layers", folder.display()))?;
+    Ok(Exit::Done)
+}
+
+fn main() -> ExitCode {
+    exit::command("wells", draw)
 }
