@@ -2,6 +2,9 @@
 # Sourced by the tests of the command `tray`, after common.sh: has it built, and what they ask of it. With TRAY_COMMAND=FILE they take that command, and the
 # `wells` beside it, and do not end at what is wrong but list it.
 needs cargo gcc python3
+if [ -z "${TRAY_COMMAND:-}" ]; then
+    missing=$(debian_crates) || skip "Debian's librust-$missing-dev is not installed (./demo installs it)"
+fi
 wrongs=0
 
 # wrong WORDS.. : something is not as it should be.
@@ -14,8 +17,6 @@ wrong() {
 # built FOLDER: sets tray, wells and here (the folder of this file), and enters an empty folder target/tests/FOLDER.
 # shellcheck disable=SC2034 # the tests use them
 built() {
-    local missing
-    missing=$(debian_crates) || skip "Debian's librust-$missing-dev is not installed (./demo installs it)"
     if [ -z "${TRAY_COMMAND:-}" ]; then
         library
         (cd host/cli && CARGO_TARGET_DIR=../target cargo build --quiet --release)

@@ -16,6 +16,12 @@ workers() {
     fi
 }
 
+# At the end of a test: where the command could not be built it was not tried, and the test says so.
+tried() {
+    local missing
+    [ -n "${TRAY_WORKER:-}" ] || missing=$(debian_crates) || skip "in part: Debian's librust-$missing-dev is not installed, to try the command; nothing is wrong elsewhere"
+}
+
 # trials WORKER COUNT SEED [first]: in memory where there is room, so that no storage is waited for.
 trials() {
     local kept folder status=0
