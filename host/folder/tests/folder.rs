@@ -100,6 +100,11 @@ fn change_byte(path: &Path, at: u64) {
     file.write_all(&[byte[0] ^ 1]).unwrap();
 }
 
+/// Where files' times are coarse, a change within some milliseconds of the job's making has the same time.
+fn wait_for_another_time() {
+    thread::sleep(Duration::from_millis(20));
+}
+
 fn says<T>(result: Result<T, Error>) -> String {
     result.map(drop).unwrap_err().to_string()
 }
@@ -234,6 +239,7 @@ fn changed_under_a_worker() {
         let folder = make(&room.join(name));
         let mut first = worker(&folder, durable);
         go_on(&mut first, PIXELS - 1);
+        wait_for_another_time();
         // Of the table this is the first layer's offset.
         change_byte(&folder.path().join(name), 16);
         let mut worked = || loop {
@@ -263,6 +269,7 @@ fn a_backup_written_over_a_job() {
     go_on(&mut first, u64::MAX);
     first.stop().unwrap();
     let whole = folder.finished().unwrap();
+    wait_for_another_time();
     for entry in fs::read_dir(room.join("backup")).unwrap().map(Result::unwrap) {
         fs::write(folder.path().join(entry.file_name()), fs::read(entry.path()).unwrap()).unwrap();
     }
