@@ -1,5 +1,5 @@
-//! A job kept in a folder, as the command `tray` keeps it: whatever happens to its workers, its machine's power, its disk or
-//! its copies, nothing but the right picture is ever called finished.
+//! A job kept in a folder, as the command `tray` keeps it: when its workers are killed, its power is lost, its disk is full or
+//! it is copied, nothing but the right picture is called finished. host/README.md says what is not covered.
 //!
 //! A worker ([`Worker`]) maps the work buffers and the mark into its memory, so that a kill loses nothing: the next worker
 //! of the same boot goes on at the mark. A loss of power loses what was not yet stored, in any order; so before a phase
