@@ -41,9 +41,10 @@ pub struct Lock {
 }
 
 impl Folder {
-    /// Reads a folder's description. Its files must be its own: regular ones, with no name besides, since a job's lists
-    /// share no memory, neither with each other nor with another job's.
+    /// Reads a folder's description. Its files must be its own: regular ones, with no name besides, and no two the same, as a
+    /// bind mount makes them without a name; since a job's lists share no memory, neither with each other nor with another job's.
     pub fn open(path: &Path) -> Result<Self> {
+        let mut files = vec![];
         for name in GIVEN.iter().chain(&MEMORY) {
             let file = path.join(name);
             let data = match fs::symlink_metadata(&file) {
@@ -52,9 +53,11 @@ impl Folder {
                 }
                 data => data.at(&file)?,
             };
-            if !data.is_file() || data.nlink() > 1 {
+            let identity = (data.dev(), data.ino());
+            if !data.is_file() || data.nlink() > 1 || files.contains(&identity) {
                 return Error::wrong(&file, "a job's file is a regular one with no other name, and no link");
             }
+            files.push(identity);
         }
         let file = path.join(JOB);
         let text = fs::read(&file).at(&file)?;
