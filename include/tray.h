@@ -229,8 +229,10 @@ uint64_t tray_compose(
     uint32_t *out, size_t out_length);
 
 /* A picture of four channels narrowed to `wanted` of them, as words or as bytes 0 to 255: 0 and the whole output; or 11,
- * and the output as it was. One channel is the pixel's gray (Rust's `luma`), three leave out alpha; 3 and 4 channels are
- * copied with all their bits. A byte is the sample, clamped to 0 to 1, times 255, rounded, halves up; of a NaN it is 0. */
+ * and the output as it was. One channel is the pixel's gray, (0.212656 red + 0.715158 green) + 0.072186 blue, each
+ * operation rounded once to a float: the intensity that the operators use, bit for bit. Alpha does not count in it, and a NaN
+ * is stored as 7FC00000. Three leave out alpha; 3 and 4 channels are copied with all their bits. A byte is the sample, clamped
+ * to 0 to 1, times 255, rounded, halves up; of a NaN it is 0. */
 uint64_t tray_narrow(int64_t wanted, const uint32_t *input, size_t input_length, uint32_t *out, size_t out_length);
 uint64_t tray_narrow_bytes(int64_t wanted, const uint32_t *input, size_t input_length, uint8_t *out, size_t out_length);
 

@@ -1,5 +1,6 @@
-//! The Rust compositor as an oracle: composite.rs, deep.rs, exec.rs and gravity_translate.rs compiled
-//! unchanged, a model of document 01's refusals and jobs above them, and what compares a port with both.
+//! The Rust compositor as an oracle: composite.rs, deep.rs, exec.rs and gravity_translate.rs compiled as they are
+//! but for the weights of the gray (build.rs), a model of document 01's refusals and jobs above them, and what
+//! compares a port with both.
 
 mod stubs;
 include!(concat!(env!("OUT_DIR"), "/modules.rs"));

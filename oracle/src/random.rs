@@ -130,6 +130,18 @@ impl Random {
         (0..count).map(|_| self.drawn(flavour)).collect()
     }
 
+    /// Pixels of four channels, of one flavour; in one list in four the three colours are equal.
+    pub fn pixels(&mut self, count: usize) -> Vec<u32> {
+        let mut words = self.words(count * 4);
+        if self.one_in(4) {
+            for pixel in words.chunks_exact_mut(4) {
+                let value = pixel[0];
+                pixel[..3].fill(value);
+            }
+        }
+        words
+    }
+
     fn side(&mut self, most: u64) -> i64 {
         if self.one_in(40) { 0 } else { 1 + self.below(most) as i64 }
     }

@@ -46,7 +46,7 @@ twentieth = lit 0x3d4c_cccd
 abbrev pub millionth : Float
 millionth = lit 0x3586_37bd
 
--- the weights of `intensity` (composite.rs 902 to 904): 0.212656, 0.715158, 0.072186
+-- the weights of `intensity` (composite.rs 902 to 904) and, by document 02, of the gray: 0.212656, 0.715158, 0.072186
 abbrev pub intensityRed : Float
 intensityRed = lit 0x3e59_c27f
 
@@ -55,16 +55,6 @@ intensityGreen = lit 0x3f37_1498
 
 abbrev pub intensityBlue : Float
 intensityBlue = lit 0x3d93_d641
-
--- the weights of `luma` (deep.rs 340 to 346): 0.299, 0.587, 0.114
-abbrev pub lumaRed : Float
-lumaRed = lit 0x3e99_1687
-
-abbrev pub lumaGreen : Float
-lumaGreen = lit 0x3f16_45a2
-
-abbrev pub lumaBlue : Float
-lumaBlue = lit 0x3de9_78d5
 
 -- the weights of W3C's Lum: 0.3, 0.59, 0.11
 abbrev pub lumRed : Float
@@ -116,9 +106,6 @@ table =
     ∷ decimal intensityRed 212656 1000000
     ∷ decimal intensityGreen 715158 1000000
     ∷ decimal intensityBlue 72186 1000000
-    ∷ decimal lumaRed 299 1000
-    ∷ decimal lumaGreen 587 1000
-    ∷ decimal lumaBlue 114 1000
     ∷ decimal lumRed 3 10
     ∷ decimal lumGreen 59 100
     ∷ decimal lumBlue 11 100

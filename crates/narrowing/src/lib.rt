@@ -1,5 +1,5 @@
 // Narrowing: a picture of four channels, lent as words, into a lent output of one, three or four channels, as words or as bytes
-// (`to_channels`, `luma` and `narrow_u8` of deep.rs). A call answers a number, and writes nothing where that is a fault's.
+// (`to_channels`, `luma` and `narrow_u8` of deep.rs, `luma` with the weights of document 02). A call answers a number, and writes nothing where that is a fault's.
 // The contracts cite specs/Luma and specs/Narrow.
 ghost use mathlib.Core.Path.{_≡_};
 ghost use Prim.Native.Nat.{_*_, _/_, _<_};
@@ -16,6 +16,7 @@ use float_steps::words::word;
 use pictures::Rgba;
 use pictures::shapes::bad_channels;
 use pictures::shapes::natural;
+use pictures::weights;
 use pictures::widen::rgba_at;
 use pictures::widen::values;
 
@@ -26,7 +27,7 @@ const REFUSED: u64 = Fault::NARROW;
 pub fn luma(p: Rgba) -> f32
     ensures { λ r. ⌜ r ≡ lumaOf p ⌝ }
 {
-    0.299 * p.r + 0.587 * p.g + 0.114 * p.b
+    weights::RED * p.r + weights::GREEN * p.g + weights::BLUE * p.b
 }
 
 // A word that is kept, with all its bits.

@@ -4,6 +4,7 @@
 pub mod bilinear; // bilinear.rt: the four neighbours of a place between pixels, and their mixture
 pub mod flat; // flat.rt: pixels written into a list of words
 pub mod shapes; // shapes.rt: a picture's sides and channels as a caller gives them, and which are accepted
+pub mod weights; // weights.rt: how much each colour counts in a pixel's intensity and in its gray
 pub mod widen; // widen.rt: `to_rgba` of one pixel
 
 // The four words of a pixel.

@@ -17,12 +17,13 @@ use float_steps::root::sqrt;
 use float_steps::sign::abs;
 use float_steps::sign::square;
 use pictures::Rgba;
+use pictures::weights;
 
 // Rec. 709 intensity.
 fn intensity(p: Rgba) -> f32
     ensures { λ r. ⌜ r ≡ intensityOf p ⌝ }
 {
-    0.212656 * p.r + 0.715158 * p.g + 0.072186 * p.b
+    weights::RED * p.r + weights::GREEN * p.g + weights::BLUE * p.b
 }
 
 fn gray(v: f32, a: f32) -> Rgba

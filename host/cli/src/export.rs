@@ -15,7 +15,7 @@ pub struct Export {
     job: PathBuf,
     /// The picture to write: .png (whole numbers), .pfm (floats, without alpha), .tif or .tiff (floats), .raw (the words alone, low byte first). An older one is replaced when the new one is whole
     picture: PathBuf,
-    /// 1 gray, 3 colour, 4 colour and alpha; without it a PFM has 3 and each other 4
+    /// 1 gray (0.212656 red + 0.715158 green + 0.072186 blue, as the operators' intensity), 3 colour, 4 colour and alpha; without it a PFM has 3 and each other 4
     #[arg(long)]
     channels: Option<u8>,
     /// The bits of a PNG's sample, 8 without it

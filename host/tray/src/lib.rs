@@ -55,7 +55,8 @@ pub fn compose(inputs: &Inputs, out: &mut [u32]) -> Result<(), Error<Fault>> {
     Ok(Fault::check(raw::compose(inputs, out))?)
 }
 
-/// A picture of four channels narrowed to `wanted` of them (1, 3 or 4). `out` has `wanted` words a pixel.
+/// A picture of four channels narrowed to `wanted` of them (1, 3 or 4). `out` has `wanted` words a pixel. One channel is the
+/// gray, 0.212656 red + 0.715158 green + 0.072186 blue, which is the intensity that the operators use; three leave out alpha.
 pub fn narrow(wanted: i64, input: &[u32], out: &mut [u32]) -> Result<(), Error<Fault>> {
     environment()?;
     Ok(Fault::check(raw::narrow(wanted, input, out))?)

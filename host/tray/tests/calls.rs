@@ -75,6 +75,11 @@ fn narrowing() {
     let mut gray = [0];
     narrow(1, &pixels, &mut gray).unwrap();
     assert_eq!(gray, [0x7fc0_0000]);
+    let colours = words(&[1.0, 0.0, 0.0, 0.5, 0.0, 1.0, 0.0, 0.5, 0.0, 0.0, 1.0, 0.5]).to_vec();
+    let (mut gray, mut bytes) = ([0; 3], [7; 3]);
+    narrow(1, &colours, &mut gray).unwrap();
+    narrow_bytes(1, &colours, &mut bytes).unwrap();
+    assert_eq!((gray, bytes), ([0.212656, 0.715158, 0.072186].map(f32::to_bits), [54, 182, 18]));
     for (wanted, length) in [(2, 2), (3, 4), (-1, 1)] {
         let mut out = vec![9; length];
         assert_eq!(narrow(wanted, &pixels, &mut out), Err(Error::Refused(Fault::Narrow)));

@@ -3,6 +3,8 @@
 //! to the other side: the static library that the feature `tray` links, or else the restatement. Every
 //! word, answer, count and untouched word is compared. The first mismatch is shrunk, and printed as a line
 //! that the vectors' program can replay.
+//!
+//! stream grays COUNT SEED: instead of these COUNT random pixels, narrowed to one channel as words and as bytes.
 
 use oracle::compare::{agrees, answered, expected};
 use oracle::lines::{Case, Outcome, Request, alone};
@@ -23,6 +25,7 @@ struct Counts {
     stores: u64,
     narrowings: u64,
     names: u64,
+    grays: u64,
 }
 
 struct Stream {
@@ -59,6 +62,35 @@ impl Stream {
         }
     }
 
+    /// Requests of every kind.
+    fn requests(&mut self, count: u64, random: &mut Random) {
+        for i in 0..count {
+            self.compare(random.composition());
+            if i % 10 == 0 {
+                self.compare(random.narrowing());
+                self.compare(random.name());
+            }
+            if i % 100 == 0 {
+                self.counts.jobs += 1;
+                random.job_requests(|request| match self.compare(request) {
+                    Outcome::Calls { memory, .. } => memory,
+                    _ => Memory::default(),
+                });
+            }
+        }
+    }
+
+    /// Pixels to one channel, some dozens at a time.
+    fn grays(&mut self, count: u64, random: &mut Random) {
+        while self.counts.grays < count {
+            let length = (count - self.counts.grays).min(64) as usize;
+            let input = random.pixels(length);
+            self.compare(Request::Narrow { wanted: 1, input: input.clone(), length });
+            self.compare(Request::Bytes { wanted: 1, input, length });
+            self.counts.grays += length as u64;
+        }
+    }
+
     fn report(&self, case: Case) -> ! {
         std::panic::set_hook(Box::new(|_| {}));
         let least = expected(shrink(case.request, |request| !agrees(&*self.side, &expected(request.clone()))));
@@ -76,9 +108,11 @@ impl Stream {
 }
 
 fn main() {
-    let numbers: Vec<u64> = std::env::args().skip(1).filter_map(|a| a.parse().ok()).collect();
+    let words: Vec<String> = std::env::args().skip(1).collect();
+    let grays = words.first().is_some_and(|word| word == "grays");
+    let numbers: Vec<u64> = words[grays as usize..].iter().filter_map(|word| word.parse().ok()).collect();
     let [count, seed] = numbers[..] else {
-        eprintln!("stream COUNT SEED");
+        eprintln!("stream [grays] COUNT SEED");
         std::process::exit(2)
     };
     let (side, name): (Box<dyn Side>, _) = match ours::linked() {
@@ -87,22 +121,18 @@ fn main() {
     };
     let mut random = Random::new(seed);
     let mut stream = Stream { side, counts: Counts::default() };
-    for i in 0..count {
-        stream.compare(random.composition());
-        if i % 10 == 0 {
-            stream.compare(random.narrowing());
-            stream.compare(random.name());
-        }
-        if i % 100 == 0 {
-            stream.counts.jobs += 1;
-            random.job_requests(|request| match stream.compare(request) {
-                Outcome::Calls { memory, .. } => memory,
-                _ => Memory::default(),
-            });
-        }
+    if grays {
+        stream.grays(count, &mut random);
+    } else {
+        stream.requests(count, &mut random);
     }
     let c = stream.counts;
-    println!("the Rust against {name}, seed {seed}: no mismatch");
+    let rust = if cfg!(feature = "unchanged") { "the Rust with deep.rs as it is" } else { "the Rust" };
+    println!("{rust} against {name}, seed {seed}: no mismatch");
+    if grays {
+        println!("pixels narrowed to one channel {}, each as a word and as a byte", c.grays);
+        return;
+    }
     println!("compositions {} ({} refused, {} pixels)", c.compositions, c.refused, c.pixels);
     println!("jobs {}, their calls {} ({} refused, {} stores)", c.jobs, c.calls, c.refused_calls, c.stores);
     println!("narrowings {}, names {}", c.narrowings, c.names);

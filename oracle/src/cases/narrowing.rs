@@ -36,7 +36,7 @@ pub fn put(book: &mut Book) {
         rolled.extend((0..SPECIAL.len()).map(|i| SPECIAL[(i * 7 + shift) % SPECIAL.len()]));
     }
     each_width(book, &rolled);
-    book.note("narrowing: three equal values, whose luma is not always the value; 13/255 among them");
+    book.note("narrowing: three equal values, whose luma is not always the value; 58/255 among them");
     let grays = (0..=255).filter(|code| code % 9 == 4).flat_map(|code| {
         let word = (code as f32 / 255.0).to_bits();
         [word, word, word, 0x3f80_0000]
@@ -52,6 +52,14 @@ pub fn put(book: &mut Book) {
     for _ in 0..12 {
         let input = random.words(32);
         each_width(book, &input);
+    }
+    book.note("narrowing: the 256 grays of bytes, and each colour alone");
+    let opaque = |[r, g, b]: [f32; 3]| [r, g, b, 1.0].map(f32::to_bits);
+    let grays: Vec<u32> = (0..=255).flat_map(|code| opaque([code as f32 / 255.0; 3])).collect();
+    let alone = |c: usize| (0..20).map(move |n| opaque([0, 1, 2].map(|i| if i == c { n as f32 / 19.0 } else { 0.0 })));
+    let colours: Vec<u32> = (0..3).flat_map(alone).flatten().collect();
+    for input in grays.chunks(256).chain([&colours[..]]) {
+        both(book, 1, input, input.len() / 4);
     }
     book.note("narrowing: nothing, and fault 11");
     each_width(book, &[]);

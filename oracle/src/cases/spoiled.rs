@@ -4,9 +4,10 @@
 use super::book::Book;
 use super::layer::pairs;
 use crate::compare::{agrees, expected};
-use crate::lines::{Case, Reader, Request, parts};
+use crate::lines::{Case, Reader, Request, ask, parts};
 use crate::model::Reference;
-use crate::request::Memory;
+use crate::request::{Memory, words};
+use crate::restated::{Reading, Restated, Wrong};
 
 /// A case of each kind, small enough that every number of its answer is spoiled in turn.
 fn cases() -> Vec<Case> {
@@ -55,14 +56,31 @@ fn spoiled(asked: &str, answered: &str) -> Vec<String> {
     lines
 }
 
+/// The gray of a pixel as a word and as a byte, answered as deep.rs has it and document 02 does not.
+fn grays() -> impl Iterator<Item = String> {
+    let input = words(&[0.25, 0.5, 0.75, 1.0]);
+    let asked = [
+        Request::Narrow { wanted: 1, input: input.clone(), length: 1 },
+        Request::Bytes { wanted: 1, input, length: 1 },
+    ];
+    asked.into_iter().map(|request| {
+        let outcome = ask(&Restated { reading: Reading { wrong: Some(Wrong::LumaWeights) } }, &request);
+        let (asked, answered) = parts(&Case { request, expected: outcome });
+        asked + &answered
+    })
+}
+
 pub fn put(book: &mut Book) {
     book.note("spoiled: none of these may be taken");
+    let mut put = |line: &str, right: bool| {
+        let taken = matches!(Reader::default().case(line), Ok(Some(case)) if agrees(&Reference, &case));
+        assert_eq!(taken, right, "{line}");
+        book.text += &format!("!{line}\n");
+    };
     for case in cases() {
         let (asked, answered) = parts(&case);
-        for line in spoiled(&asked, &answered) {
-            let taken = matches!(Reader::default().case(&line), Ok(Some(case)) if agrees(&Reference, &case));
-            assert!(!taken, "{line} is not spoiled");
-            book.text += &format!("!{line}\n");
-        }
+        spoiled(&asked, &answered).iter().for_each(|line| put(line, false));
     }
+    // By deep.rs as it is, these are right.
+    grays().for_each(|line| put(&line, cfg!(feature = "unchanged")));
 }

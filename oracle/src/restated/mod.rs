@@ -1,6 +1,7 @@
 //! Document 01 worked out a second time, with no line of the Rust: float steps, operators, placing, names,
-//! narrowing, faults and the job, one store after the other. Each place where a reader may go wrong has a
-//! switch (`wrong.rs`); with none set this agrees with the Rust and its model on every request.
+//! narrowing, faults and the job, one store after the other; the gray as document 02 has it. Each place where
+//! a reader may go wrong has a switch (`wrong.rs`); with none set this agrees with the Rust and its model on
+//! every request.
 
 // A negated comparison is another one where an operand is NaN, and some misreadings are just that.
 #![allow(clippy::neg_cmp_op_on_partial_ord)]
@@ -67,7 +68,9 @@ impl Side for Restated {
         if self.reading.narrowing(wanted, input.len(), out.len()) {
             return 11;
         }
-        for (byte, word) in out.iter_mut().zip(self.reading.narrowed(wanted, input)) {
+        let old = self.reading.is(Wrong::GrayBytesWeights);
+        let reading = if old { Reading { wrong: Some(Wrong::LumaWeights) } } else { self.reading };
+        for (byte, word) in out.iter_mut().zip(reading.narrowed(wanted, input)) {
             *byte = self.reading.byte(f32::from_bits(word));
         }
         0

@@ -10,7 +10,9 @@ impl Reading {
         for pixel in input.chunks(4) {
             match wanted {
                 1 => {
-                    let luma = self.luma([0, 1, 2].map(|c| f32::from_bits(pixel[c])));
+                    let [colour @ .., alpha] = [0, 1, 2, 3].map(|c| f32::from_bits(pixel[c]));
+                    let luma = self.luma(colour);
+                    let luma = if self.is(Wrong::LumaByAlpha) { luma * alpha } else { luma };
                     let kept = self.is(Wrong::NarrowKeepsNan);
                     out.push(if luma.is_nan() && !kept { NAN } else { luma.to_bits() });
                 }

@@ -3,6 +3,7 @@
 use super::hsl::Hsl;
 use super::operator::Op;
 use super::sites::{Abs, Clamp, Default};
+use super::steps::{REC_601, WEIGHTS};
 use super::wrong::{Reading, Wrong};
 
 pub type Pixel = [f32; 4];
@@ -231,13 +232,9 @@ impl Reading {
     }
 
     pub fn intensity(self, p: Pixel) -> f32 {
-        if self.is(Wrong::IntensityByLuma) {
-            return 0.299 * p[0] + 0.587 * p[1] + 0.114 * p[2];
-        }
-        if self.is(Wrong::IntensityGrouped) {
-            return 0.212_656 * p[0] + (0.715_158 * p[1] + 0.072_186 * p[2]);
-        }
-        (0.212_656 * p[0] + 0.715_158 * p[1]) + 0.072_186 * p[2]
+        let weights = if self.is(Wrong::IntensityByLuma) { REC_601 } else { WEIGHTS };
+        let [r, g, b] = [0, 1, 2].map(|i| weights[i] * p[i]);
+        if self.is(Wrong::IntensityGrouped) { r + (g + b) } else { (r + g) + b }
     }
 
     fn by_component(self, op: Op, s: Pixel, d: Pixel) -> Pixel {

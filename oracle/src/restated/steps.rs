@@ -1,8 +1,14 @@
 //! Document 01's float steps, from its words alone: smaller, larger, clamp, `rem_euclid`, the square root by
-//! whole-number squares, the absolute value on bits, floor and the byte step on the exact value.
+//! whole-number squares, the absolute value on bits, floor and the byte step on the exact value. And the gray, from
+//! document 02's.
 
 use super::sites::{Abs, Clamp, Rem};
 use super::wrong::{Reading, Wrong};
+
+/// Red, green and blue in a pixel's intensity and, by document 02, in its gray.
+pub const WEIGHTS: [f32; 3] = [0.212_656, 0.715_158, 0.072_186];
+/// What deep.rs weighs the gray with.
+pub const REC_601: [f32; 3] = [0.299, 0.587, 0.114];
 
 impl Reading {
     pub fn smaller(self, a: f32, b: f32) -> f32 {
@@ -93,17 +99,26 @@ impl Reading {
         f32::from_bits(v.to_bits() & 0x7fff_ffff)
     }
 
-    /// `luma` of a colour.
+    /// `luma` of a colour, as document 02 has it.
     pub fn luma(self, c: [f32; 3]) -> f32 {
-        if self.is(Wrong::LumaOfGray) && c[0] == c[1] && c[1] == c[2] {
-            return c[0];
+        let mut weights = WEIGHTS;
+        match self.wrong {
+            Some(Wrong::LumaWeights) => weights = REC_601,
+            Some(Wrong::LumaRed) => weights[0] = REC_601[0],
+            Some(Wrong::LumaGreen) => weights[1] = REC_601[1],
+            Some(Wrong::LumaBlue) => weights[2] = REC_601[2],
+            Some(Wrong::LumaFourDigits) => weights = [0.2126, 0.7152, 0.0722],
+            _ => {}
         }
-        if self.is(Wrong::LumaGrouped) {
-            return 0.299 * c[0] + (0.587 * c[1] + 0.114 * c[2]);
+        let [r, g, b] = [0, 1, 2].map(|i| weights[i] * c[i]);
+        match self.wrong {
+            Some(Wrong::LumaOfGray) if c[0] == c[1] && c[1] == c[2] => c[0],
+            Some(Wrong::LumaGrouped) => r + (g + b),
+            Some(Wrong::LumaBlueFirst) => r + b + g,
+            Some(Wrong::LumaFused) => weights[2].mul_add(c[2], weights[1].mul_add(c[1], r)),
+            Some(Wrong::LumaInDouble) => (0..3).map(|i| weights[i] as f64 * c[i] as f64).sum::<f64>() as f32,
+            _ => r + g + b,
         }
-        let [r, g, b] =
-            if self.is(Wrong::LumaWeights) { [0.212_656, 0.715_158, 0.072_186] } else { [0.299, 0.587, 0.114] };
-        r * c[0] + g * c[1] + b * c[2]
     }
 
     /// `narrow_u8` of a sample.

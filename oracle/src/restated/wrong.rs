@@ -1,11 +1,11 @@
-//! The misreadings: every place where document 01 or the Rust can be read wrongly, one switch each, with what
+//! The misreadings: every place where documents 01 and 02 or the Rust can be read wrongly, one switch each, with what
 //! the wrong reader takes it for. `equivalent` names those that change no answer, with the reason.
 
 use super::convention::Convention;
 use super::operator::Op;
 use super::sites::{Abs, Bound, Clamp, Default, Rem};
 
-/// How document 01 is read: as it says, or with one misreading.
+/// How the documents are read: as they say, or with one misreading.
 #[derive(Clone, Copy, Debug)]
 pub struct Reading {
     pub wrong: Option<Wrong>,
@@ -68,7 +68,16 @@ misreadings! {
     RootOfSubnormal "square root: a subnormal counts as 0"
     LumaOfGray "luma of three equal values is the value"
     LumaGrouped "luma: the last two products summed first"
-    LumaWeights "luma with the weights of intensity"
+    LumaWeights "luma with deep.rs's own weights"
+    LumaRed "luma: red's weight is deep.rs's"
+    LumaGreen "luma: green's weight is deep.rs's"
+    LumaBlue "luma: blue's weight is deep.rs's"
+    LumaFourDigits "luma: the weights to four digits"
+    LumaBlueFirst "luma: blue added before green"
+    LumaFused "luma: a product and its sum rounded once"
+    LumaInDouble "luma: in f64, rounded once"
+    LumaByAlpha "luma: times alpha"
+    GrayBytesWeights "gray bytes with deep.rs's own weights"
     NarrowKeepsNan "gray output: a NaN keeps the bits it was computed with"
     NarrowStoresNan "narrowed or copied channels: a NaN becomes 7FC00000"
     ByteOfNan "byte of NaN is 255"
@@ -175,7 +184,7 @@ misreadings! {
     RmseByThird "Rmse: times 1 / 3"
     RmseOfFour "Rmse: over four channels"
     IntensityGrouped "intensity: the last two products summed first"
-    IntensityByLuma "intensity with the weights of luma"
+    IntensityByLuma "intensity with deep.rs's own weights of luma"
     LightnessHalved "rgb_to_hsl: halves summed"
     HslSaturationGrouped "rgb_to_hsl: 2 - (max + min)"
     RgbDarkExpanded "hsl_to_rgb: l + l * s"
