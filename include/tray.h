@@ -11,9 +11,10 @@
  *
  * What is lent. A list is lent as a pointer and its count of elements, for the time of the call; no pointer is kept.
  * Pointers to const are only read. The others are written only as each function says, and not at all by a call that is
- * refused (its answer is not 0), but for a job call's three answers. The pointer of an empty list is not read, but must
- * not be null and must be aligned for its type, as all pointers must. Whatever a call writes, a list or a single answer,
- * must overlap neither anything else that it writes nor any list that it reads.
+ * refused (its answer is not 0), but for the answers of tray_job (layer, stores, finished) and of tray_read_card (line,
+ * width, height, channels, layers), which every call writes. The pointer of an empty list is not read, but must not be
+ * null and must be aligned for its type, as all pointers must. Whatever a call writes, a list or a single answer, must
+ * overlap neither anything else that it writes nor any list that it reads.
  *
  * Calls have no state of their own and take no lock, allocate nothing and always return. Calls on different lists may
  * run at the same time.
@@ -48,6 +49,7 @@
  *    9  WORK       a work buffer, or a single composition's output, is not 4 x width x height words
  *   10  MARK       the mark is not one number, or more than (layers + 1) x width x height
  *   11  NARROW     wanted channels not 1, 3, 4; input no multiple of 4 words; output not input / 4 x wanted
+ *   12  CARD       a line of a card out of form or a layer too many; table or arguments not those of 16 layers
  */
 #ifndef TRAY_H
 #define TRAY_H
@@ -68,10 +70,10 @@ extern "C" {
 /* Limits. What lies beyond is refused under the number beside it. */
 enum tray_limit {
     TRAY_OPERATORS = 70,        /* 3: operators are 0 to 69 */
-    TRAY_MAX_LAYERS = 16,       /* 1 */
+    TRAY_MAX_LAYERS = 16,       /* 1, of a card 12 */
     TRAY_MAX_SIDE = 2048,       /* 2 for a destination, 7 for a source */
     TRAY_MAX_OFFSET = 1000000,  /* 5: right or down, and as far to the left or up */
-    TRAY_MAX_ARGUMENTS = 4      /* 8: words of `args` a layer, of which TRAY_COLUMN_COUNT are read */
+    TRAY_MAX_ARGUMENTS = 4      /* 8, of a card 12: words of `args` a layer, of which TRAY_COLUMN_COUNT are read */
 };
 
 enum tray_fault {
@@ -86,7 +88,8 @@ enum tray_fault {
     TRAY_ARGUMENTS = 8,
     TRAY_WORK = 9,
     TRAY_MARK = 10,
-    TRAY_NARROW = 11
+    TRAY_NARROW = 11,
+    TRAY_CARD = 12
 };
 
 /* The layer table: ten numbers a layer, the lowest layer first. */
@@ -263,6 +266,44 @@ uint64_t tray_job(
     uint64_t allowance,
     uint32_t *work0, size_t work0_length, uint32_t *work1, size_t work1_length, uint64_t *mark, size_t mark_length,
     uint64_t *layer, uint64_t *stores, uint64_t *finished);
+
+/* Reads a card: a job as text, which people keep and edit. It has the job's numbers and no samples: those of the
+ * destination and of the sources a host has besides. One form a line, single spaces, each line ended by byte 10, the last
+ * one too, and nothing else; first the destination, then the layers, the lowest first, at most TRAY_MAX_LAYERS:
+ *
+ *    (tray EDITION WIDTH HEIGHT CHANNELS)
+ *    (layer NAME (place GRAVITY RIGHT DOWN) (flags FLAGS) (source FIRST WIDTH HEIGHT CHANNELS) (args WORD ..))
+ *
+ *    (tray 1 2 1 3)
+ *    (layer over (place 0 3 -2) (flags 62) (source 0 2 1 3) (args 3f000000))
+ *
+ *  - The EDITION is 1.
+ *  - A NAME is what follows TRAY_OP_ in enum tray_operator, in small letters without '_' (over, softlight, ..), or an alias:
+ *    srcover srcin srcout srcatop copy replace none minus divide add subtract average copyopacity
+ *    letter for letter: what tray_from_name drops or lowers is out of form here.
+ *  - A WORD is an argument's bits in eight digits 0 to 9 and a to f, a NaN's too. There are 0 to TRAY_MAX_ARGUMENTS of
+ *    them, a space before each; (args) has none.
+ *  - Any other number is decimal, of one to ten digits, the first not 0 unless it is the only one; if it is below 0, and only
+ *    then, '-' stands before it.
+ *
+ * Lent are the text, without an ending 0, and, however many layers the card has, table and args for the most that a job may
+ * have: TRAY_COLUMNS x TRAY_MAX_LAYERS numbers, TRAY_MAX_ARGUMENTS x TRAY_MAX_LAYERS words. Every call writes the five
+ * answers.
+ *
+ *  - 0: *line is 0, *width, *height, *channels and *layers are the card's. Row k of the table and its arguments are as line
+ *    k + 2 says, with the count of arguments in TRAY_COLUMN_COUNT; arguments that are not given are 0, and so is all past
+ *    the last layer. A card of its first line alone has 0 layers, which tray_job refuses as 1.
+ *  - 12: table and args are as they were, the answers 0 but for *line. That is 0 too if table_length or args_length is
+ *    another, whatever the text; otherwise the first line, counted from 1, that is out of form or a layer too many, and 1
+ *    if the text is empty.
+ *
+ * Whether a job takes the numbers, and the operators (interpolate and blur are in form), is not asked: tray_job does, and refuses them
+ * as 1 to 8. It is lent the rows of the layers alone, TRAY_COLUMNS x *layers numbers and TRAY_MAX_ARGUMENTS x *layers words
+ * (examples/card.c). */
+uint64_t tray_read_card(
+    const uint8_t *text, size_t text_length,
+    int64_t *table, size_t table_length, uint32_t *args, size_t args_length,
+    uint64_t *line, int64_t *width, int64_t *height, int64_t *channels, int64_t *layers);
 
 #ifdef __cplusplus
 }

@@ -1,5 +1,6 @@
 /* What include/tray.h says in numbers is true of the library: each operator's number by its name, and each limit, at which
- * a call is accepted and beyond which it is refused under the number that stands beside it. */
+ * a call is accepted and beyond which it is refused under the number that stands beside it; and the card that it shows is
+ * read as it says, and one that is refused writes nothing. */
 #include "../include/tray.h"
 #include <stdio.h>
 #include <string.h>
@@ -44,6 +45,101 @@ static uint64_t job(int64_t side, int64_t source, int64_t layers, int64_t column
 
 static uint64_t one(int64_t column, int64_t number) { return job(1, 1, 1, column, number); }
 
+#define NUMBERS (TRAY_COLUMNS * TRAY_MAX_LAYERS)
+#define WORDS (TRAY_MAX_ARGUMENTS * TRAY_MAX_LAYERS)
+#define TRAY_LINE "(tray 1 2 1 3)\n"
+#define LAYER_LINE(flags, words) "(layer over (place 0 3 -2) (flags " flags ") (source 0 2 1 3) (args" words "))\n"
+
+/* The header's own card, made by tests/header from its lines. */
+static const char shown[] =
+#include CARD
+    ;
+
+/* What a card is read into, with an element behind each list that is not lent. */
+static int64_t filled[NUMBERS + 1];
+static uint32_t given[WORDS + 1];
+static uint64_t line;
+static int64_t numbers[4];
+
+/* What the call leaves as it was is all bytes 0x55. */
+static uint64_t read_card(const char *text, size_t table_length, size_t args_length) {
+    memset(filled, 0x55, sizeof filled);
+    memset(given, 0x55, sizeof given);
+    memset(numbers, 0x55, sizeof numbers);
+    line = 99;
+    return tray_read_card((const uint8_t *)text, strlen(text), filled, table_length, given, args_length, &line, &numbers[0],
+        &numbers[1], &numbers[2], &numbers[3]);
+}
+
+static void refuses(const char *what, const char *text, size_t table_length, size_t args_length, uint64_t at) {
+    expect(what, read_card(text, table_length, args_length), TRAY_CARD);
+    expect(what, line, at);
+    for (size_t i = 0; i < 4; i++) expect(what, (uint64_t)numbers[i], 0);
+    for (size_t i = 0; i < NUMBERS + 1; i++) expect(what, (uint64_t)filled[i], 0x5555555555555555);
+    for (size_t i = 0; i < WORDS + 1; i++) expect(what, given[i], 0x55555555);
+}
+
+static void reads(const char *what, const char *text, uint64_t layers) {
+    expect(what, read_card(text, NUMBERS, WORDS), TRAY_DONE);
+    expect(what, line, 0);
+    expect(what, (uint64_t)numbers[3], layers);
+    for (size_t i = TRAY_COLUMNS * layers; i < NUMBERS; i++) expect(what, (uint64_t)filled[i], 0);
+    for (size_t i = TRAY_MAX_ARGUMENTS * layers; i < WORDS; i++) expect(what, given[i], 0);
+    expect(what, (uint64_t)filled[NUMBERS], 0x5555555555555555);
+    expect(what, given[WORDS], 0x55555555);
+}
+
+/* An operator's name as a card spells it, and as the enum does, which is out of form. */
+static void names(const char *shouted, int64_t number) {
+    static const char after[] = " (place 0 3 -2) (flags 62) (source 0 2 1 3) (args 3f000000))\n";
+    char name[32], text[256];
+    size_t length = 0;
+    for (const char *c = shouted; *c; c++) {
+        if (*c != '_') name[length++] = (char)(*c - 'A' + 'a');
+    }
+    name[length] = 0;
+    snprintf(text, sizeof text, TRAY_LINE "(layer %s%s", name, after);
+    reads(name, text, 1);
+    expect(name, (uint64_t)filled[TRAY_COLUMN_OPERATOR], (uint64_t)number);
+    snprintf(text, sizeof text, TRAY_LINE "(layer %s%s", shouted, after);
+    refuses(shouted, text, NUMBERS, WORDS, 2);
+}
+
+static void cards(void) {
+    static const int64_t row[TRAY_COLUMNS] = {TRAY_OP_OVER, TRAY_NO_GRAVITY, 3, -2, 62, 0, 2, 1, 3, 1};
+    static const uint32_t half[TRAY_MAX_ARGUMENTS] = {0x3f000000};
+    static char text[4096] = TRAY_LINE;
+    reads("the card that is shown", shown, 1);
+    expect("its width", (uint64_t)numbers[0], 2);
+    expect("its height", (uint64_t)numbers[1], 1);
+    expect("its channels", (uint64_t)numbers[2], 3);
+    expect("its row", (uint64_t)memcmp(filled, row, sizeof row), 0);
+    expect("its arguments", (uint64_t)memcmp(given, half, sizeof half), 0);
+    reads("a card without layers", TRAY_LINE, 0);
+    reads("ten digits", TRAY_LINE LAYER_LINE("-9999999999", ""), 1);
+    refuses("eleven digits", TRAY_LINE LAYER_LINE("10000000000", ""), NUMBERS, WORDS, 2);
+    refuses("a leading 0", TRAY_LINE LAYER_LINE("062", ""), NUMBERS, WORDS, 2);
+    refuses("'-' before 0", TRAY_LINE LAYER_LINE("-0", ""), NUMBERS, WORDS, 2);
+    refuses("a capital digit", TRAY_LINE LAYER_LINE("62", " 3F000000"), NUMBERS, WORDS, 2);
+    refuses("seven digits", TRAY_LINE LAYER_LINE("62", " 3f00000"), NUMBERS, WORDS, 2);
+    reads("all arguments in a card", TRAY_LINE LAYER_LINE("0", " 00000000 00000000 00000000 ffffffff"), 1);
+    refuses("an argument more in a card", TRAY_LINE LAYER_LINE("0", " 00000000 00000000 00000000 00000000 00000000"), NUMBERS,
+        WORDS, 2);
+    refuses("'-' in a name", TRAY_LINE "(layer soft-light (place 0 0 0) (flags 0) (source 0 0 0 1) (args))\n", NUMBERS, WORDS, 2);
+    refuses("an empty text", "", NUMBERS, WORDS, 1);
+    refuses("another edition", "(tray 2 2 1 3)\n", NUMBERS, WORDS, 1);
+    refuses("no end of the first line", "(tray 1 2 1 3)", NUMBERS, WORDS, 1);
+    refuses("no end of the last line", TRAY_LINE "(layer over (place 0 0 0) (flags 0) (source 0 0 0 1) (args))", NUMBERS, WORDS, 2);
+    refuses("a number less in the table", shown, NUMBERS - 1, WORDS, 0);
+    refuses("a number more in the table", shown, NUMBERS + 1, WORDS, 0);
+    refuses("an argument's word less", shown, NUMBERS, WORDS - 1, 0);
+    refuses("an argument's word more, and an empty text", "", NUMBERS, WORDS + 1, 0);
+    for (int k = 0; k < TRAY_MAX_LAYERS; k++) strcat(text, LAYER_LINE("62", " 3f000000"));
+    reads("the most layers in a card", text, TRAY_MAX_LAYERS);
+    strcat(text, LAYER_LINE("62", " 3f000000"));
+    refuses("a layer more in a card", text, NUMBERS, WORDS, TRAY_MAX_LAYERS + 2);
+}
+
 int main(void) {
     const int count = sizeof operators / sizeof *operators;
     expect("the count of operators", (uint64_t)count, TRAY_OPERATORS);
@@ -54,6 +150,7 @@ int main(void) {
         expect(name, number, (uint64_t)operators[k].number);
         int refused = operators[k].number == TRAY_OP_INTERPOLATE || operators[k].number == TRAY_OP_BLUR;
         expect(name, one(TRAY_COLUMN_OPERATOR, operators[k].number), refused ? TRAY_CURVE : TRAY_DONE);
+        names(name, operators[k].number);
     }
     expect("an operator beyond", one(TRAY_COLUMN_OPERATOR, TRAY_OPERATORS), TRAY_OPERATOR);
     for (int sign = -1; sign <= 1; sign += 2) {
@@ -72,5 +169,6 @@ int main(void) {
     expect("a longer source", job(1, TRAY_MAX_SIDE + 1, 1, 0, 0), TRAY_SOURCE);
     expect("the most layers", job(1, 1, TRAY_MAX_LAYERS, 0, 0), TRAY_DONE);
     expect("a layer more", job(1, 1, TRAY_MAX_LAYERS + 1, 0, 0), TRAY_STACK);
+    cards();
     return wrong;
 }

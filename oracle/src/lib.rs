@@ -1,6 +1,6 @@
 //! The Rust compositor as an oracle: composite.rs, deep.rs, exec.rs and gravity_translate.rs compiled as they are
-//! but for the weights of the gray (build.rs), a model of document 01's refusals and jobs above them, and what
-//! compares a port with both.
+//! but for the weights of the gray (build.rs), a model of document 01's refusals and jobs above them, document 02's
+//! card, and what compares a port with all of it.
 
 mod stubs;
 include!(concat!(env!("OUT_DIR"), "/modules.rs"));
@@ -9,12 +9,14 @@ pub use stubs::extent::Extent;
 pub use stubs::*;
 
 pub mod account;
+pub mod card;
 pub mod cases;
 pub mod compare;
 pub mod lines;
 pub mod model;
 pub mod ours;
 pub mod random;
+pub mod random_cards;
 pub mod reference;
 pub mod request;
 pub mod restated;

@@ -1,7 +1,7 @@
 //! The text form of a case, one a line: what is asked, then what must be answered. oracle/README.md
 //! describes it. `Reader` and `Writer` remember the lists that '=' stands for.
 
-use crate::request::{Answer, Job, Memory, Side};
+use crate::request::{Answer, CardAnswer, Job, Memory, Side};
 use std::fmt::Write;
 
 /// Where the fixed vectors stand: they are what the program that replays them reads.
@@ -10,15 +10,38 @@ pub const VECTORS: &str = concat!(env!("CARGO_MANIFEST_DIR"), "/../crates/vector
 /// What an output holds before it is lent: an output that is not written still has it.
 pub const FILL: u32 = 0xa5a5_a5a5;
 pub const FILL_BYTE: u8 = 0xa5;
+/// No card has a number of so many digits.
+pub const FILL_INTEGER: i64 = 0x25a5_a5a5_a5a5_a5a5;
 
 /// What is asked.
 #[derive(Clone, Debug, PartialEq)]
 pub enum Request {
     Name(Vec<u8>),
-    Narrow { wanted: i64, input: Vec<u32>, length: usize },
-    Bytes { wanted: i64, input: Vec<u32>, length: usize },
-    Compose { job: Job, length: usize },
-    Calls { job: Job, memory: Memory, allowances: Vec<u64> },
+    Narrow {
+        wanted: i64,
+        input: Vec<u32>,
+        length: usize,
+    },
+    Bytes {
+        wanted: i64,
+        input: Vec<u32>,
+        length: usize,
+    },
+    Compose {
+        job: Job,
+        length: usize,
+    },
+    Calls {
+        job: Job,
+        memory: Memory,
+        allowances: Vec<u64>,
+    },
+    /// A text, and the lengths of the table and of the arguments that are lent.
+    Card {
+        text: Vec<u8>,
+        table: usize,
+        args: usize,
+    },
 }
 
 /// What is answered, with every list that was lent for writing as the request left it.
@@ -28,6 +51,7 @@ pub enum Outcome {
     Words { number: u64, out: Vec<u32> },
     Bytes { number: u64, out: Vec<u8> },
     Calls { answers: Vec<(Answer, u64)>, memory: Memory },
+    Card { answer: CardAnswer, table: Vec<i64>, args: Vec<u32> },
 }
 
 #[derive(Clone, Debug, PartialEq)]
@@ -71,6 +95,11 @@ pub fn ask(side: &dyn Side, request: &Request) -> Outcome {
                 answers.push((answer, shown(&memory.mark)));
             }
             Outcome::Calls { answers, memory }
+        }
+        Request::Card { text, table, args } => {
+            let (mut table, mut args) = (vec![FILL_INTEGER; *table], vec![FILL; *args]);
+            let answer = side.read_card(text, &mut table, &mut args);
+            Outcome::Card { answer, table, args }
         }
     }
 }
@@ -229,6 +258,12 @@ impl Writer {
                 self.memory(memory);
                 self.list(allowances);
             }
+            Request::Card { text, table, args } => {
+                self.line.push('R');
+                self.list(text);
+                self.number(*table);
+                self.number(*args);
+            }
         }
     }
 
@@ -255,6 +290,15 @@ impl Writer {
                     self.number(*mark);
                 }
                 self.memory(memory);
+            }
+            Outcome::Card { answer, table, args } => {
+                self.number(answer.number);
+                self.number(answer.line);
+                for n in [answer.width, answer.height, answer.channels, answer.layers] {
+                    self.number(n);
+                }
+                self.output(table, FILL_INTEGER);
+                self.output(args, FILL);
             }
         }
     }
@@ -320,6 +364,17 @@ fn shared<T: Number>(tokens: &mut Tokens, kept: &[T]) -> Result<Vec<T>, String> 
     }
 }
 
+fn card_answer(tokens: &mut Tokens) -> Result<CardAnswer, String> {
+    Ok(CardAnswer {
+        number: number(tokens)?,
+        line: number(tokens)?,
+        width: number(tokens)?,
+        height: number(tokens)?,
+        channels: number(tokens)?,
+        layers: number(tokens)?,
+    })
+}
+
 impl Reader {
     fn job(&mut self, tokens: &mut Tokens, layers: bool) -> Result<Job, String> {
         let (width, height, channels) = (number(tokens)?, number(tokens)?, number(tokens)?);
@@ -366,6 +421,7 @@ impl Reader {
                 memory: self.memory(tokens)?,
                 allowances: shared(tokens, &[])?,
             },
+            "R" => Request::Card { text: shared(tokens, &[])?, table: number(tokens)?, args: number(tokens)? },
             _ => return Err(format!("{kind:?} is no kind of line")),
         })
     }
@@ -392,6 +448,11 @@ impl Reader {
                 }
                 Outcome::Calls { answers, memory: self.memory(tokens)? }
             }
+            Request::Card { table, args, .. } => Outcome::Card {
+                answer: card_answer(tokens)?,
+                table: shared(tokens, &vec![FILL_INTEGER; *table])?,
+                args: shared(tokens, &vec![FILL; *args])?,
+            },
         })
     }
 

@@ -1,10 +1,9 @@
 //! Document 01 above the compiled Rust: the table of faults, single compositions, narrowing, and the job
 //! with its phases, work pictures, mark, allowance and answer. Every pixel comes from `reference`.
 
-use crate::reference;
-use crate::request::{ARGUMENTS, Answer, COLUMNS, Job, Layer, Memory, Picture, Side};
+use crate::request::{ARGUMENTS, Answer, COLUMNS, CardAnswer, Job, LAYERS, Layer, Memory, Picture, Side};
+use crate::{card, reference};
 
-const LAYERS: i64 = 16;
 const SIDE: i64 = 2048;
 const OFFSET: i64 = 1_000_000;
 const OPERATORS: i64 = 70;
@@ -55,7 +54,7 @@ fn row_fault(row: &[i64], samples: usize) -> Option<u64> {
 /// Faults 1 to 8 of a job's inputs, in document 01's order.
 pub fn inputs_fault(job: &Job) -> Option<Fault> {
     let layers = job.layers;
-    if !(1..=LAYERS).contains(&layers)
+    if !(1..=LAYERS as i64).contains(&layers)
         || job.table.len() as i64 != COLUMNS as i64 * layers
         || job.args.len() as i64 != ARGUMENTS as i64 * layers
     {
@@ -157,7 +156,7 @@ fn narrowed(wanted: i64, input: usize) -> Option<usize> {
     ([1, 3, 4].contains(&wanted) && input.is_multiple_of(4)).then_some(input / 4 * wanted as usize)
 }
 
-/// The reference: the compiled Rust with document 01 around it.
+/// The reference: the compiled Rust with document 01 around it, and document 02's card.
 pub struct Reference;
 
 impl Side for Reference {
@@ -198,5 +197,9 @@ impl Side for Reference {
             Some((number, layer)) => Answer::refused(number, layer),
             None => accepted(job, allowance, memory),
         }
+    }
+
+    fn read_card(&self, text: &[u8], table: &mut [i64], args: &mut [u32]) -> CardAnswer {
+        card::read_card(text, table, args)
     }
 }

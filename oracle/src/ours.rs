@@ -16,7 +16,7 @@ pub fn linked() -> Option<Box<dyn Side>> {
 
 #[cfg(feature = "tray")]
 mod library {
-    use crate::request::{Answer, Job, Memory, Side};
+    use crate::request::{Answer, CardAnswer, Job, Memory, Side};
     use tray::raw;
 
     /// What the library says of a name: 0 and its operator; or 3, with the operator as it was.
@@ -81,6 +81,15 @@ mod library {
 
     const WORD: u32 = 0x5a5a_5a5a;
     const LONG: u64 = 0x5a5a_5a5a_5a5a_5a5a;
+
+    /// A card's answers before a call writes them.
+    const UNWRITTEN: raw::CardAnswers = raw::CardAnswers {
+        line: LONG,
+        width: LONG as i64,
+        height: LONG as i64,
+        channels: LONG as i64,
+        layers: LONG as i64,
+    };
 
     /// The lists of a job's inputs, lent.
     struct Inputs {
@@ -172,6 +181,21 @@ mod library {
             memory.work = [&work0, &work1].map(|work| work.around_kept().list().to_vec());
             memory.mark = mark.around_kept().list().to_vec();
             Answer { number, layer: layer.only(), stores: stores.only(), finished: yes(finished.only()) }
+        }
+
+        fn read_card(&self, text: &[u8], table: &mut [i64], args: &mut [u32]) -> CardAnswer {
+            // Line ends around the text: a reader that runs past it finds the end that a last line lacks.
+            let lent = Lent::new(text, b'\n');
+            let mut rows = Lent::new(table, LONG as i64);
+            let mut words = Lent::new(args, WORD);
+            let mut answers = Lent::new(&[UNWRITTEN], UNWRITTEN);
+            let to_answers = &mut answers.list_mut()[0];
+            let number = raw::read_card(lent.list(), rows.list_mut(), words.list_mut(), to_answers);
+            lent.kept(text);
+            table.copy_from_slice(rows.around_kept().list());
+            args.copy_from_slice(words.around_kept().list());
+            let raw::CardAnswers { line, width, height, channels, layers } = answers.only();
+            CardAnswer { number, line, width, height, channels, layers }
         }
     }
 }

@@ -1,7 +1,7 @@
 //! Random requests: jobs, compositions, narrowings and names, with the values that are likely to matter.
 
 use crate::lines::Request;
-use crate::reference::{self, ALIASES};
+use crate::reference;
 use crate::request::{ARGUMENTS, COLUMNS, Job, Memory};
 
 /// Words worth trying: zeros, ones and halves, what lies beside them, subnormals, infinities, NaN patterns.
@@ -382,11 +382,14 @@ impl Random {
         }
     }
 
+    /// One of the 83 names.
+    pub fn known_name(&mut self) -> &'static str {
+        let names: Vec<&str> = reference::names().collect();
+        self.pick(&names)
+    }
+
     pub fn name(&mut self) -> Request {
-        let mut name: Vec<u8> = match self.below(83) {
-            n if n < 70 => reference::name(n as usize).into(),
-            n => ALIASES[n as usize - 70].into(),
-        };
+        let mut name: Vec<u8> = self.known_name().into();
         for byte in &mut name {
             if self.one_in(3) {
                 byte.make_ascii_uppercase();

@@ -116,6 +116,11 @@ pub fn name(operator: usize) -> &'static str {
     CompositeOp::ALL[operator].name()
 }
 
+/// The 83 names: the operators' own, then the others.
+pub fn names() -> impl Iterator<Item = &'static str> {
+    (0..CompositeOp::ALL.len()).map(name).chain(ALIASES)
+}
+
 pub fn is_map(operator: usize) -> bool {
     CompositeOp::ALL[operator].is_map()
 }

@@ -1,9 +1,10 @@
 //! What is asked and answered, in plain numbers: pictures, samples and arguments are words (the bits of an
 //! f32), and every list may have any length. `Side` is one party of a comparison.
 
-/// Document 01: ten numbers a layer in the sheet, four arguments a layer.
+/// Document 01: ten numbers a layer in the sheet, four arguments a layer, and the most layers.
 pub const COLUMNS: usize = 10;
 pub const ARGUMENTS: usize = 4;
+pub const LAYERS: usize = 16;
 
 /// The flags' bits. The channels' are in the order of the samples.
 pub const TILE: u32 = 1;
@@ -68,7 +69,25 @@ impl Answer {
     }
 }
 
-/// One party of a comparison: the five public calls. `job.layers` is not read by `compose`.
+/// What the reader of a card answers, beside the two lists that it fills.
+#[derive(Clone, Copy, Debug, PartialEq, Eq)]
+pub struct CardAnswer {
+    pub number: u64,
+    pub line: u64,
+    pub width: i64,
+    pub height: i64,
+    pub channels: i64,
+    pub layers: i64,
+}
+
+impl CardAnswer {
+    /// Document 02: 12, with the line, and the other answers 0.
+    pub fn refused(line: u64) -> Self {
+        CardAnswer { number: 12, line, width: 0, height: 0, channels: 0, layers: 0 }
+    }
+}
+
+/// One party of a comparison: the six public calls. `job.layers` is not read by `compose`.
 pub trait Side {
     /// The operator's number, or `None` for an unknown name.
     // The exported call has this name; a side is no operator, and `self` is asked.
@@ -79,6 +98,8 @@ pub trait Side {
     fn narrow(&self, wanted: i64, input: &[u32], out: &mut [u32]) -> u64;
     fn narrow_bytes(&self, wanted: i64, input: &[u32], out: &mut [u8]) -> u64;
     fn call(&self, job: &Job, allowance: u64, memory: &mut Memory) -> Answer;
+    /// Fills the table and the arguments with a card's layers.
+    fn read_card(&self, text: &[u8], table: &mut [i64], args: &mut [u32]) -> CardAnswer;
 }
 
 pub fn floats(words: &[u32]) -> Vec<f32> {

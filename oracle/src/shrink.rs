@@ -1,7 +1,7 @@
 //! The smallest request that still fails: one simplification after the other, as long as the failure stays.
 
 use crate::lines::Request;
-use crate::request::{ARGUMENTS, COLUMNS, Job, Memory};
+use crate::request::{ARGUMENTS, COLUMNS, Job, LAYERS, Memory};
 
 const ONE: u32 = 0x3f80_0000;
 
@@ -101,6 +101,19 @@ fn shorter<T: Clone>(list: &[T]) -> Vec<Vec<T>> {
         .collect()
 }
 
+/// Texts with a line or a byte less; lists of the right lengths.
+fn smaller_cards(text: &[u8], table: usize, args: usize) -> Vec<Request> {
+    let made = |text: Vec<u8>| Request::Card { text, table, args };
+    let lines: Vec<&[u8]> = text.split_inclusive(|byte| *byte == b'\n').collect();
+    let mut out: Vec<Request> = shorter(&lines).iter().map(|lines| made(lines.concat())).collect();
+    out.extend(shorter(text).into_iter().map(made));
+    let right = (LAYERS * COLUMNS, LAYERS * ARGUMENTS);
+    if (table, args) != right {
+        out.push(Request::Card { text: text.to_vec(), table: right.0, args: right.1 });
+    }
+    out
+}
+
 fn smaller(request: &Request) -> Vec<Request> {
     match request {
         Request::Name(name) => shorter(name).into_iter().map(Request::Name).collect(),
@@ -162,6 +175,7 @@ fn smaller(request: &Request) -> Vec<Request> {
             }
             out
         }
+        Request::Card { text, table, args } => smaller_cards(text, *table, *args),
     }
 }
 

@@ -17,8 +17,8 @@ ITEMS = {
     "crates/job/src/fill.rt": "pub fn fill",
     "crates/job/src/pixel.rt": "fn write_of; fn pixel; pub fn write_out",
     "crates/job/src/store.rt": "pub fn store",
-    "crates/tray/src/lib.rt": "fn flag; extern fn tray_from_name; extern fn tray_compose; extern fn tray_narrow; extern fn tray_narrow_bytes; "
-    "extern fn tray_job",
+    "crates/tray/src/lib.rt": "fn flag; extern fn tray_from_name; extern fn tray_read_card; extern fn tray_compose; extern fn tray_narrow; "
+    "extern fn tray_narrow_bytes; extern fn tray_job",
 }
 # What each function calls, with each `while` and `match`, in the order of the text. A function that is not here has none.
 CALLS = {
@@ -33,6 +33,7 @@ CALLS = {
     "memory_fault": ".len .len .len",
     "fill": "widen Layer::at plan source_of span span",
     "tray_from_name": "match names::from_name Named::Operator",
+    "tray_read_card": "cards::read",
     "tray_compose": "compose::single::compose",
     "tray_narrow": "narrowing::narrow",
     "tray_narrow_bytes": "narrowing::narrow_bytes",
@@ -130,7 +131,7 @@ def body(function, _):
 def assigns(function, own):
     """An assignment is a `let` of a new name, or sets what such a `let` has bound, or in crates/tray a number that the function answers by."""
     bound = [name for name, _ in function.parameters] + list(own)
-    places = [f"* {name}" for name, kind in function.parameters if "/tray/" in function.source.path and kind == "& mut u64"]
+    places = [f"* {name}" for name, kind in function.parameters if "/tray/" in function.source.path and kind in ("& mut u64", "& mut i64")]
     for place, statement, start in text.assignments(function):
         let = re.fullmatch(r"let (mut )?(\w+)", place)
         if let and let[2] in bound:

@@ -1,5 +1,5 @@
--- The numbers of the faults, each once: document 01's table, "Why a job is turned down", under its words. The associated constants of the type `Fault`
--- have the same values.
+-- The numbers of the faults, each once: document 01's table, "Why a job is turned down", under its words, and those of document 02. The associated constants
+-- of the type `Fault` have the same values.
 use Prim.Native.Nat.{ℕ}
 
 -- no fault: the number is 0 when accepted
@@ -48,3 +48,7 @@ MARK = 10
 -- the channels wanted in narrowing, or the length of its input or output
 abbrev pub NARROW : ℕ
 NARROW = 11
+
+-- document 02: the length of a list that a card is read into, or a line of the card
+abbrev pub CARD : ℕ
+CARD = 12

@@ -1,5 +1,5 @@
-// The numbers under which a job is refused: document 01, "Why a job is turned down", under the table's words. specs/Faults has the same numbers for the
-// definitions.
+// The numbers under which a job is refused: document 01, "Why a job is turned down", under the table's words, and those of document 02. specs/Faults has the
+// same numbers for the definitions.
 
 // A fault is answered as its number.
 pub struct Fault;
@@ -29,4 +29,6 @@ impl Fault {
     pub const MARK: u64 = 10;
 
     pub const NARROW: u64 = 11;
+
+    pub const CARD: u64 = 12;
 }

@@ -1,5 +1,5 @@
-// What a host links: the names, the single composition, narrowing and the job, for C and Rust. Each function hands its arguments on and has the contract of
-// what it calls. A picture is lent as its words, the binary32 patterns, so that a host passes its float buffer as it is.
+// What a host links: the names, the cards, the single composition, narrowing and the job, for C and Rust. Each function hands its arguments on and has the
+// contract of what it calls. A picture is lent as its words, the binary32 patterns, so that a host passes its float buffer as it is.
 ghost use mathlib.Core.Path.{_≡_};
 ghost use mathlib.Core.Bool.{cond};
 ghost use lib.IntN.{pos};
@@ -7,6 +7,7 @@ ghost use Rattle.lent.specs.Lent.{before, after};
 ghost use Rattle.names.specs.Names.{fromName};
 ghost use Rattle.pictures.specs.Shapes.{shapeOf};
 ghost use Rattle.layers.specs.Inputs.{inputs};
+ghost use Rattle.cards.specs.Answers.{answer, outcome, readOf};
 ghost use Rattle.compose.specs.Single.{composed, composeOf};
 ghost use Rattle.narrowing.specs.Narrow.{narrowed, narrowOf, narrowBytesOf};
 ghost use Rattle.job.specs.Memory.{found, left};
@@ -38,6 +39,38 @@ pub extern "C" fn tray_from_name(name: &[u8], operator: &mut u64) -> u64
         }
         Named::Unknown => Fault::OPERATOR,
     }
+}
+
+// The card that a text is, read into the layer table and the arguments, lent for the most layers: 0, and both filled; or 12, with the first line that is out of
+// form or one too many (0 for a list of another length), and both as they were. The line, the tray's width, height and channels and the count of layers are
+// written to the last five.
+#[no_mangle]
+pub extern "C" fn tray_read_card(
+    text: &[u8],
+    rows: &mut [i64],
+    words: &mut [u32],
+    line: &mut u64,
+    width: &mut i64,
+    height: &mut i64,
+    channels: &mut i64,
+    layers: &mut i64,
+) -> u64
+    ensures { λ r. ⌜
+        outcome (answer r (after line) (after width) (after height) (after channels) (after layers)) (after rows) (after words)
+        ≡ readOf (before text) (before rows) (before words)
+        ⌝ }
+{
+    let a = cards::read(text, rows, words);
+    *line = a.line;
+    let wide = a.width;
+    *width = wide;
+    let high = a.height;
+    *height = high;
+    let each = a.channels;
+    *channels = each;
+    let count = a.layers;
+    *layers = count;
+    a.number
 }
 
 // One layer on one destination: 0 and the whole picture in `out`; or the number of the first fault, with `out` as it was.

@@ -8,24 +8,26 @@ use mir.Facts.{toZ-ofZ}
 use mir.Syntax.{w64}
 use mir.Val.{SFits, toZ, ofZ}
 use lib.IntN.{ℤ, pos}
-use lib.ListN.{length, getD, set, take, replicate}
+use lib.ListN.{getD, set, take, replicate}
 use borrow.Author.Tests.{lt-ltb, le-ltb}
 use Rattle.vector_lines.specs.declared.numbers.Integer.{Integer}
 use Rattle.vector_lines.specs.declared.numbers.Unsigned.{Unsigned}
-use Rattle.vector_lines.specs.Numbers.{nowhere, largest, numberAt, expectedAt, signedAt}
-use Rattle.vector_lines.specs.Lists.{Listed, listed, numbersAt, bytesAt, wordsAt, same, ifSame}
+use Rattle.vector_lines.specs.Numbers.{nowhere, largest, numberAt, expectedAt, signedAt, expectedSignedAt}
+use Rattle.vector_lines.specs.Lists.{Listed, listed, wordsAt, sameBy, ifSame}
 use Rattle.vector_lines.proofs.Reading.{signed-back}
 use Rattle.vector_rooms.specs.declared.Shaped.{Shaped}
 use Rattle.vector_rooms.specs.Rooms.{shapeAt, Layered, layered, layersAt, Composing, composing, withDst, withLayers, dstAt, listsAt, inputsBy}
 use Rattle.pictures.specs.Shapes.{shapeOf}
 use Rattle.layers.specs.Inputs.{Inputs, inputsOf}
 use Rattle.compose.specs.Single.{Composed, composed, composeOf}
-use Rattle.names.specs.Names.{fromName}
 use Rattle.narrowing.specs.Narrow.{Narrowed, narrowed, narrowOf, narrowBytesOf}
-use Rattle.tray.specs.Answers.{NameAnswer, named, nameOf}
-use Rattle.vector_cases.specs.Cases.{namedAt, nameBy, nameAt, listedAs, writtenAt, narrowedAt, narrowedBytesAt}
+use Rattle.cards.specs.declared.Answer.{Answer}
+use Rattle.cards.specs.Answers.{Outcome, outcome, answer, readOf}
+use Rattle.tray.specs.Answers.{NameAnswer, named}
+use Rattle.vector_cases.specs.Cases.{textBy, namedAt, listedAs, writtenAt, narrowedAt, narrowedBytesAt}
 use Rattle.vector_cases.specs.Cases.{narrowingBy, narrowingFrom, narrowingAfter, narrowingAt, inputAt}
 use Rattle.vector_cases.specs.Cases.{composedAt, composedBy, answeredAt, compositionBy, compositionAt}
+use Rattle.vector_cases.specs.Cases.{tableFill, tableAfter, answersAt, readAt, lentTo, lentBy, lentAt}
 
 -- the inputs of a call, with the shape's numbers as they are read back from their bits
 abbrev shapeBits : Inputs → Inputs
@@ -33,25 +35,36 @@ shapeBits i =
     inputsOf (shapeOf (toZ w64 (ofZ w64 (i .shape .width))) (toZ w64 (ofZ w64 (i .shape .height))) (toZ w64 (ofZ w64 (i .shape .channels)))) (i .dst) (i .count) (i .table) (i .args)
     (i .samples)
 
+-- the answer to a card, with its signed numbers as they are read back from their bits, which is the same
+abbrev answerBits : Answer → Answer
+answerBits a =
+    answer (a .number) (a .line) (toZ w64 (ofZ w64 (a .width))) (toZ w64 (ofZ w64 (a .height))) (toZ w64 (ofZ w64 (a .channels)))
+    (toZ w64 (ofZ w64 (a .layers)))
+
+answer-back : (a : Answer) → SFits w64 (a .width) → SFits w64 (a .height) → SFits w64 (a .channels) → SFits w64 (a .layers) → answerBits a ≡ a
+answer-back a w h c l = rw (toZ-ofZ w, toZ-ofZ h, toZ-ofZ c, toZ-ofZ l)
+
+-- ---- texts
+
+pub text-read : (answered : ℕ → List ℕ → ℕ) (due : Listed ℕ) {list text : List ℕ} {count next r : ℕ} → listed list count next ≡ due
+    → text ≡ take count list → r ≡ answered next text → r ≡ textBy answered due
+unfolding textBy
+text-read answered due read t e = rw (e, t) (ap (λ (l : Listed ℕ). textBy answered l) read)
+
+-- ---- outputs
+
+-- an output of any kind of elements, and the list that it must be, `due`, once it is read
+pub compared : {A : Type 0} (test : A → A → Bool) (out : List A) (due : Listed A) {list text : List A} {count next r : ℕ} {t : Bool}
+    → listed list count next ≡ due → text ≡ take count list → t ≡ sameBy test text out → r ≡ ifSame t next → r ≡ listedAs test out due
+unfolding listedAs
+compared test out due read e t r = rw (r, t, e) (ap (λ (l : Listed _). listedAs test out l) read)
+
 module _ (line : List ℕ) where
   -- ---- names
-
-  pub name-read : {list text : List ℕ} {count next r : ℕ} → listed list count next ≡ bytesAt line 1 (replicate 128 0) 0 → text ≡ take count list
-      → r ≡ namedAt line next (nameOf (fromName text) 0) → r ≡ nameAt line
-  unfolding nameBy
-  name-read read t e = rw (e, t) (ap (λ (l : Listed ℕ). nameBy line l) read)
 
   pub name-answered : (at : ℕ) (due : NameAnswer) {n o p r : ℕ} → named n o ≡ due → p ≡ expectedAt line at n → r ≡ expectedAt line p o
       → r ≡ namedAt line at due
   name-answered at due e p r = rw (r, p, ← e)
-
-  -- ---- outputs
-
-  pub compared : (most fill at : ℕ) (out : List ℕ) {list text : List ℕ} {count next r : ℕ} {t : Bool}
-      → listed list count next ≡ numbersAt most line at (replicate 256 fill) (length out) → text ≡ take count list → t ≡ same text out → r ≡ ifSame t next
-      → r ≡ writtenAt most fill line at out
-  unfolding listedAs
-  compared most fill at out read e t r = rw (r, t, e) (ap (λ (l : Listed ℕ). listedAs out l) read)
 
   -- ---- narrowings
 
@@ -136,3 +149,25 @@ module _ (line : List ℕ) where
       → composing place d t a s c ≡ compositionAt line (composing 0 dst table args samples counts)
   composition-read dst args samples counts table e1 e2 e3 d t a s e4 =
       composition-of (composing 0 dst table args samples counts) e1 e2 e3 (rw (d, t, a, s) at e4)
+
+  -- ---- cards
+
+  module _ (at : ℕ) (a : Answer) (w : SFits w64 (a .width)) (h : SFits w64 (a .height)) (c : SFits w64 (a .channels)) (l : SFits w64 (a .layers)) where
+    pub answers-so : {p p1 p2 p3 p4 r : ℕ} → p ≡ expectedAt line at (a .number) → p1 ≡ expectedAt line p (a .line)
+        → p2 ≡ expectedSignedAt line p1 (answerBits a .width) → p3 ≡ expectedSignedAt line p2 (answerBits a .height)
+        → p4 ≡ expectedSignedAt line p3 (answerBits a .channels) → r ≡ expectedSignedAt line p4 (answerBits a .layers) → r ≡ answersAt line at a
+    answers-so e e1 e2 e3 e4 e5 = rw (e5, e4, e3, e2, e1, e) (ap (λ (x : Answer). answersAt line at x) (answer-back a w h c l))
+
+    -- the answers, and both lists
+    pub card-so : (text args : List ℕ) (table : List ℤ) {t : List ℤ} {u : List ℕ} {p q r : ℕ} → outcome a t u ≡ readOf text table args
+        → p ≡ answersAt line at (answerBits a) → q ≡ tableAfter line p t → r ≡ writtenAt 4294967295 2779096485 line q u
+        → r ≡ readAt line at (readOf text table args)
+    unfolding readAt
+    card-so text args table {t} {u} is e1 e2 e3 =
+        rw (e3, e2, e1) (ap (λ (x : Answer). readAt line at (outcome x t u)) (answer-back a w h c l) ∙ ap (λ (o : Outcome). readAt line at o) is)
+
+  pub lists-lent : (at : ℕ) (text : List ℕ) {n m : Unsigned} {r : ℕ} → n ≡ numberAt 320 line at → m ≡ numberAt 128 line (n .next)
+      → r ≡ readAt line (m .next) (readOf text (take (n .value - 0) (replicate 320 tableFill)) (take (m .value - 0) (replicate 128 2779096485)))
+      → r ≡ lentAt line at text
+  unfolding lentBy lentTo
+  lists-lent at text {n} {m} e1 e2 e = rw (e, sub-zero (n .value), sub-zero (m .value), ← e1, ← e2)

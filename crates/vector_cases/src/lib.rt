@@ -7,18 +7,24 @@ ghost use Rattle.vector_lines.specs.Numbers.{largest, numberAt};
 ghost use Rattle.names.specs.Names.{fromName};
 ghost use Rattle.narrowing.specs.Narrow.{narrowOf, narrowBytesOf};
 ghost use Rattle.compose.specs.Single.{composeOf};
+ghost use Rattle.cards.specs.Answers.{answer, readOf};
 ghost use Rattle.tray.specs.Answers.{nameOf};
 ghost use Rattle.vector_rooms.specs.Rooms.{listsFound, listsLeft, inputsIn};
 ghost use Rattle.vector_cases.specs.Cases.{nameAt, namedAt, writtenAt, narrowingAt, narrowedAt, narrowedBytesAt};
 ghost use Rattle.vector_cases.specs.Cases.{inputAt, composedAt, composedBy, compositionAt};
+ghost use Rattle.vector_cases.specs.Cases.{tableAfter, answersAt, readAt, lentAt, cardAt};
 use vector_lines::NOWHERE;
 use vector_lines::bytes;
 use vector_lines::expect;
+use vector_lines::expect_signed;
 use vector_lines::first_bytes;
 use vector_lines::first_integers;
 use vector_lines::first_words;
 use vector_lines::if_same;
+use vector_lines::integers;
 use vector_lines::number;
+use vector_lines::number_up_to;
+use vector_lines::same_integers;
 use vector_lines::same_words;
 use vector_lines::signed;
 use vector_lines::words;
@@ -40,6 +46,8 @@ use vector_rooms::shape_of;
 const FILL: u32 = 0xa5a5_a5a5;
 
 const FILL_BYTE: u8 = 0xa5;
+
+const FILL_NUMBER: i64 = 0x25a5_a5a5_a5a5_a5a5;
 
 // F NAME: number operator.
 pub fn name(line: &[u8]) -> usize
@@ -198,4 +206,92 @@ fn composed_in(
         out,
     );
     written(line, expect(line, at, answer), out)
+}
+
+// R TEXT table args: number line width height channels layers TABLE ARGS.
+pub fn card(line: &[u8]) -> usize
+    ensures { λ r. ⌜ r ≡ cardAt (before line) ⌝ }
+{
+    let mut text = [0u8; 2048];
+    let mut count: usize = 0;
+    let at = bytes(line, 1, &mut text, &mut count);
+    card_lent(line, at, first_bytes(&text, count))
+}
+
+// The table and the arguments are lent with the lengths that the line says.
+fn card_lent(line: &[u8], at: usize, text: &[u8]) -> usize
+    ensures { λ r. ⌜ r ≡ lentAt (before line) at (before text) ⌝ }
+{
+    let numbers = number_up_to(line, at, 320);
+    let words = number_up_to(line, numbers.next, 128);
+    let n = numbers.value as usize;
+    let m = words.value as usize;
+    let mut table: Table = [FILL_NUMBER; 320];
+    let mut args: Args = [FILL; 128];
+    let mut bad: u64 = 0;
+    let mut width: i64 = 0;
+    let mut height: i64 = 0;
+    let mut channels: i64 = 0;
+    let mut count: i64 = 0;
+    card_read(
+        line,
+        words.next,
+        text,
+        &mut table[0..n],
+        &mut args[0..m],
+        &mut bad,
+        &mut width,
+        &mut height,
+        &mut channels,
+        &mut count,
+    )
+}
+
+// The answers are written where they are lent; `bad` is the line that is refused.
+fn card_read(
+    line: &[u8],
+    at: usize,
+    text: &[u8],
+    table: &mut [i64],
+    args: &mut [u32],
+    bad: &mut u64,
+    width: &mut i64,
+    height: &mut i64,
+    channels: &mut i64,
+    count: &mut i64,
+) -> usize
+    ensures { λ r. ⌜ r ≡ readAt (before line) at (readOf (before text) (before table) (before args)) ⌝ }
+{
+    let number = tray::tray_read_card(text, table, args, bad, width, height, channels, count);
+    let after_answers = card_answered(line, at, number, *bad, *width, *height, *channels, *count);
+    let after_table = table_written(line, after_answers, table);
+    written(line, after_table, args)
+}
+
+// The place after the answers to a card.
+fn card_answered(
+    line: &[u8],
+    at: usize,
+    number: u64,
+    bad: u64,
+    width: i64,
+    height: i64,
+    channels: i64,
+    count: i64,
+) -> usize
+    ensures { λ r. ⌜ r ≡ answersAt (before line) at (answer number bad width height channels count) ⌝ }
+{
+    let sides = expect(line, expect(line, at, number), bad);
+    let after_sides = expect_signed(line, expect_signed(line, sides, width), height);
+    expect_signed(line, expect_signed(line, after_sides, channels), count)
+}
+
+// The place after a table that must be as `out` is.
+fn table_written(line: &[u8], at: usize, out: &[i64]) -> usize
+    ensures { λ r. ⌜ r ≡ tableAfter (before line) at (before out) ⌝ }
+{
+    let mut due: Table = [FILL_NUMBER; 320];
+    let mut count = out.len();
+    let next = integers(line, at, &mut due, &mut count);
+    if_same(same_integers(first_integers(&due, count), out), next)
 }

@@ -1,5 +1,5 @@
 -- Laws on a token and on what stands in its place: a number, a signed number, a list's head. Assumes nothing.
-use mathlib.Core.Path.{_≡_, refl}
+use mathlib.Core.Path.{_≡_, refl, sym, ap, _∙_}
 use mathlib.Core.Bool.{Bool, true, false, cond}
 use mathlib.Core.List.{List}
 use Prim.Native.Nat.{ℕ, _≤_}
@@ -8,12 +8,13 @@ use mir.Facts.{toZ-ofZ}
 use mir.Syntax.{w64}
 use mir.Val.{SFits, toZ, ofZ}
 use lib.Dec.{eqb, ltb}
+use lib.IntN.{ℤ, pos, negsuc}
 use borrow.Author.Tests.{ltb-false, eq-eqb, ne-eqb}
 use Rattle.vector_lines.specs.declared.numbers.Head.{Head}
 use Rattle.vector_lines.specs.declared.numbers.Integer.{Integer}
 use Rattle.vector_lines.specs.declared.numbers.Unsigned.{Unsigned}
 use Rattle.vector_lines.specs.Numbers.{nowhere, largest, mostSigned, byteOf, pastOf, tokenAt, none, upTo, digitsAt, shortAt, numberAt, expectedAt}
-use Rattle.vector_lines.specs.Numbers.{complementOf, integerOf, signedAt, headAt, countAt}
+use Rattle.vector_lines.specs.Numbers.{complementOf, integerOf, signedAt, eqZ, expectedSignedAt, headAt, countAt}
 
 -- b is the byte at a place
 module _ (line : List ℕ) (at b : ℕ) (is : b ≡ byteOf line at) where
@@ -83,3 +84,33 @@ signed-fits line at =
 -- so one that was read is what its bits are read back as
 pub signed-back : (line : List ℕ) (at : ℕ) {n : Integer} → n ≡ signedAt line at → toZ w64 (ofZ w64 (n .value)) ≡ n .value
 signed-back line at e = rw e (toZ-ofZ (signed-fits line at))
+
+-- a signed number is the same as itself, and as no other
+same-number : (x y : ℤ) → x ≡ y → eqZ x y ≡ true
+unfolding eqZ
+same-number (pos m) y e = rw (← e) (eq-eqb m m refl)
+same-number (negsuc m) y e = rw (← e) (eq-eqb m m refl)
+
+other-number : (x y : ℤ) → (x ≡ y → ⊥) → eqZ x y ≡ false
+unfolding eqZ
+other-number (pos m) (pos n) d = ne-eqb m n (λ e. d (ap pos e))
+other-number (pos m) (negsuc n) d = refl
+other-number (negsuc m) (pos n) d = refl
+other-number (negsuc m) (negsuc n) d = ne-eqb m n (λ e. d (ap negsuc e))
+
+-- so of two that fit 64 bits it is enough to compare the bits
+pub same-bits : {x y : ℤ} → SFits w64 x → SFits w64 y → ofZ w64 x ≡ ofZ w64 y → eqZ x y ≡ true
+same-bits {x} {y} f g e = same-number x y (sym (toZ-ofZ f) ∙ rw e (toZ-ofZ g))
+
+pub other-bits : (x y : ℤ) → (ofZ w64 x ≡ ofZ w64 y → ⊥) → eqZ x y ≡ false
+other-bits x y d = other-number x y (λ e. d (rw e))
+
+-- a signed number that must be `value`
+module _ (line : List ℕ) (at : ℕ) (value : ℤ) {n : Integer} (read : n ≡ signedAt line at) where
+  pub signed-expected : SFits w64 value → ofZ w64 (n .value) ≡ ofZ w64 value → n .next ≡ expectedSignedAt line at value
+  unfolding expectedSignedAt
+  signed-expected f e = rw (← read, same-bits {x = n .value} (rw read (signed-fits line at)) f e)
+
+  pub signed-unexpected : (ofZ w64 (n .value) ≡ ofZ w64 value → ⊥) → nowhere ≡ expectedSignedAt line at value
+  unfolding expectedSignedAt
+  signed-unexpected d = rw (← read, other-bits (n .value) value d)

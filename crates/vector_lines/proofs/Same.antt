@@ -8,53 +8,53 @@ use native.Mathlib.Omega.{arith}
 use lib.Dec.{eqb}
 use lib.ListN.{length, getD, drop, drop-of-length-le}
 use lib.Seq.{drop-cons}
-use borrow.Author.Tests.{eq-eqb, ne-eqb, eqb-true}
-use Rattle.vector_lines.specs.Lists.{same}
+use borrow.Author.Tests.{eq-eqb, eqb-true}
+use Rattle.vector_lines.specs.Lists.{sameBy, same}
 
--- lists of other lengths are not the same
-pub other-length : (a b : List ℕ) → (length a ≡ length b → ⊥) → false ≡ same a b
-unfolding same
-other-length [] [] d = absurd (d refl)
-other-length [] (y ∷ b) d = refl
-other-length (x ∷ a) [] d = refl
-other-length (x ∷ a) (y ∷ b) d = rw (← other-length a b (λ e. d (ap suc e))) (never (eqb x y))
+-- lists of other lengths are not the same, by any test
+pub other-length : {A : Type 0} (test : A → A → Bool) (a b : List A) → (length a ≡ length b → ⊥) → false ≡ sameBy test a b
+unfolding sameBy
+other-length test [] [] d = absurd (d refl)
+other-length test [] (y ∷ b) d = refl
+other-length test (x ∷ a) [] d = refl
+other-length test (x ∷ a) (y ∷ b) d = rw (← other-length test a b (λ e. d (ap suc e))) (never (test x y))
   where
     never : (t : Bool) → false ≡ t && false
     never true = refl
     never false = refl
 
--- two lists of one length, whose first i elements are the same
-pub record Alike (a b : List ℕ) (i : ℕ) : Type 0 where
+-- two lists of one length, whose first i elements are the same; d is what they are read as past their ends
+pub record Alike {A : Type 0} (d : A) (test : A → A → Bool) (a b : List A) (i : ℕ) : Type 0 where
   pub passed : i ≤ length a
-  pub rest : same a b ≡ same (drop i a) (drop i b)
+  pub rest : sameBy test a b ≡ sameBy test (drop i a) (drop i b)
 
-pub none-compared : (a b : List ℕ) → Alike a b 0
-none-compared a b = record { passed = omega arith; rest = refl }
+pub none-compared : {A : Type 0} {d : A} {test : A → A → Bool} {a b : List A} → Alike d test a b 0
+none-compared = record { passed = omega arith; rest = refl }
 
-module _ {a b : List ℕ} {i : ℕ} (long : length a ≡ length b) (so-far : Alike a b i) where
-  pub one-alike : i < length a → getD a i 0 ≡ getD b i 0 → Alike a b (i + 1)
-  unfolding same
+module _ {A : Type 0} {d : A} {test : A → A → Bool} {a b : List A} {i : ℕ} (long : length a ≡ length b) (so-far : Alike d test a b i) where
+  pub one-alike : i < length a → test (getD a i d) (getD b i d) ≡ true → Alike d test a b (i + 1)
+  unfolding sameBy
   one-alike h e = record {
     passed = omega arith;
-    rest = so-far .rest ∙ rw (add-one, drop-cons a i 0 h, drop-cons b i 0 (omega arith), eq-eqb (getD a i 0) (getD b i 0) e);
+    rest = so-far .rest ∙ rw (add-one, drop-cons a i d h, drop-cons b i d (omega arith), e);
   }
 
-  pub one-other : i < length a → (getD a i 0 ≡ getD b i 0 → ⊥) → false ≡ same a b
-  unfolding same
-  one-other h d = rw (so-far .rest, drop-cons a i 0 h, drop-cons b i 0 (omega arith), ne-eqb (getD a i 0) (getD b i 0) d)
+  pub one-other : i < length a → test (getD a i d) (getD b i d) ≡ false → false ≡ sameBy test a b
+  unfolding sameBy
+  one-other h e = rw (so-far .rest, drop-cons a i d h, drop-cons b i d (omega arith), e)
 
-  pub all-alike : length a ≤ i → true ≡ same a b
-  unfolding same
+  pub all-alike : length a ≤ i → true ≡ sameBy test a b
+  unfolding sameBy
   all-alike h = let g : length b ≤ i = omega arith in rw (so-far .rest, drop-of-length-le a h, drop-of-length-le b g)
 
 -- the same lists are equal lists
 pub same-itself : (a : List ℕ) → same a a ≡ true
-unfolding same
+unfolding sameBy
 same-itself [] = refl
 same-itself (x ∷ a) = rw (eq-eqb x x refl) (same-itself a)
 
 pub same-equal : (a b : List ℕ) → same a b ≡ true → a ≡ b
-unfolding same
+unfolding sameBy
 same-equal [] [] e = refl
 same-equal [] (y ∷ b) e = cc
 same-equal (x ∷ a) [] e = cc

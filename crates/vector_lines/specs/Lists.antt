@@ -5,7 +5,7 @@ use Prim.Native.Nat.{ℕ, zero, suc}
 use lib.Dec.{eqb}
 use lib.IntN.{ℤ}
 use lib.ListN.{length, set}
-use Rattle.vector_lines.specs.Numbers.{nowhere, largest, numberAt, signedAt, headAt, countAt}
+use Rattle.vector_lines.specs.Numbers.{nowhere, largest, numberAt, signedAt, eqZ, headAt, countAt}
 
 -- the place after i numbers, where `next` is the place after one
 unfoldable pub placeOf : (ℕ → ℕ) → ℕ → ℕ → ℕ
@@ -50,12 +50,18 @@ longsAt = numbersAt largest
 abbrev pub integersAt : List ℕ → ℕ → List ℤ → ℕ → Listed ℤ
 integersAt line = listBy (λ at. signedAt line at .value) (λ at. signedAt line at .next) line
 
--- whether two lists are the same
-unfoldable pub same : List ℕ → List ℕ → Bool
-same [] [] = true
-same [] (y ∷ ys) = false
-same (x ∷ xs) [] = false
-same (x ∷ xs) (y ∷ ys) = eqb x y && same xs ys
+-- whether two lists are the same, by a test of two elements; of unsigned and of signed numbers
+unfoldable pub sameBy : {A : Type 0} → (A → A → Bool) → List A → List A → Bool
+sameBy test [] [] = true
+sameBy test [] (y ∷ ys) = false
+sameBy test (x ∷ xs) [] = false
+sameBy test (x ∷ xs) (y ∷ ys) = test x y && sameBy test xs ys
+
+abbrev pub same : List ℕ → List ℕ → Bool
+same = sameBy eqb
+
+abbrev pub sameIntegers : List ℤ → List ℤ → Bool
+sameIntegers = sameBy eqZ
 
 -- the next place after what was compared, if it is the same
 unfoldable pub ifSame : Bool → ℕ → ℕ

@@ -1,11 +1,11 @@
 -- What a token and a number of a line mean; oracle/README.md has the form. A place is counted from the line's start. Once something is
 -- malformed the place is `nowhere`, and past a line's end there is neither a space nor a digit, so it stays `nowhere`.
-use mathlib.Core.Bool.{Bool, cond, _&&_}
+use mathlib.Core.Bool.{Bool, false, cond, _&&_}
 use mathlib.Core.List.{List, [], _∷_}
 use Prim.Native.Nat.{ℕ, _+_, _-_, _*_}
 use lib.Dec.{eqb, ltb}
 use lib.ListN.{length, getD, drop}
-use lib.IntN.{pos, negsuc}
+use lib.IntN.{ℤ, pos, negsuc}
 use Rattle.vector_lines.specs.declared.numbers.Head.{Head}
 use Rattle.vector_lines.specs.declared.numbers.Integer.{Integer}
 use Rattle.vector_lines.specs.declared.numbers.Unsigned.{Unsigned}
@@ -89,6 +89,16 @@ signedBy line start =
 
 abbrev pub signedAt : List ℕ → ℕ → Integer
 signedAt line at = signedBy line (tokenAt line at)
+
+-- whether two signed numbers are the same, and the place after one that must be `value`
+unfoldable pub eqZ : ℤ → ℤ → Bool
+eqZ (pos m) (pos n) = eqb m n
+eqZ (pos m) (negsuc n) = false
+eqZ (negsuc m) (pos n) = false
+eqZ (negsuc m) (negsuc n) = eqb m n
+
+unfoldable pub expectedSignedAt : List ℕ → ℕ → ℤ → ℕ
+expectedSignedAt line at value = cond (eqZ (signedAt line at .value) value) (signedAt line at .next) nowhere
 
 -- what stands in the place of a list that has room for `room` numbers: '=', after which none follow, or their count
 abbrev pub keptAt : List ℕ → ℕ → Bool

@@ -2,7 +2,7 @@
 ghost use mathlib.Core.Path.{_≡_};
 ghost use lib.ListN.{take};
 ghost use Rattle.lent.specs.Lent.{before, after};
-ghost use Rattle.vector_lines.specs.Lists.{listed, bytesAt, wordsAt, longsAt, integersAt, same, ifSame};
+ghost use Rattle.vector_lines.specs.Lists.{listed, bytesAt, wordsAt, longsAt, integersAt, same, sameIntegers, ifSame};
 use crate::NOWHERE;
 use crate::numbers::head_of;
 use crate::numbers::number;
@@ -129,6 +129,22 @@ pub fn same_words(a: &[u32], b: &[u32]) -> bool
 
 pub fn same_longs(a: &[u64], b: &[u64]) -> bool
     ensures { λ r. ⌜ r ≡ same (before a) (before b) ⌝ }
+{
+    if a.len() != b.len() {
+        return false;
+    }
+    let mut i = 0;
+    while i < a.len() {
+        if a[i] != b[i] {
+            return false;
+        }
+        i += 1;
+    }
+    true
+}
+
+pub fn same_integers(a: &[i64], b: &[i64]) -> bool
+    ensures { λ r. ⌜ r ≡ sameIntegers (before a) (before b) ⌝ }
 {
     if a.len() != b.len() {
         return false;

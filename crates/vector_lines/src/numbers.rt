@@ -4,7 +4,7 @@ ghost use Prim.Native.Nat.{_≤_};
 ghost use Rattle.lent.specs.Lent.{before, after};
 ghost use Rattle.vector_lines.specs.Numbers.{largest, mostSigned, byteOf, pastOf, tokenAt};
 ghost use Rattle.vector_lines.specs.Numbers.{digitOf, none, upTo, goneOn, digitsAt, numberAt, expectedAt};
-ghost use Rattle.vector_lines.specs.Numbers.{integerOf, complementOf, signedAt, headAt, countAt};
+ghost use Rattle.vector_lines.specs.Numbers.{integerOf, complementOf, signedAt, expectedSignedAt, headAt, countAt};
 use crate::NOWHERE;
 
 // A number and the place after it; 0 and NOWHERE where there is none.
@@ -161,6 +161,15 @@ pub fn signed(line: &[u8], at: usize) -> Integer
         return complement(limited(digits(line, past(start)), MOST_SIGNED));
     }
     plain(limited(digits(line, start), MOST_SIGNED))
+}
+
+// The place after a signed number that must be `value`.
+pub fn expect_signed(line: &[u8], at: usize, value: i64) -> usize
+    ensures { λ r. ⌜ r ≡ expectedSignedAt (before line) at value ⌝ }
+{
+    let n = signed(line, at);
+    let read = n.value;
+    if read == value { n.next } else { NOWHERE }
 }
 
 fn plain(n: Unsigned) -> Integer

@@ -15,7 +15,7 @@ use Rattle.layers.specs.Inputs.{Inputs, inputsOf, inputs}
 use Rattle.vector_rooms.specs.declared.Shaped.{Shaped}
 
 -- what a list has that was read
-abbrev pub given : Listed ℕ → List ℕ
+abbrev pub given : {A : Type 0} → Listed A → List A
 given l = take (l .count) (l .list)
 
 -- ---- width height channels

@@ -10,7 +10,7 @@ use Rattle.vector_lines.specs.Numbers.{nowhere}
 use Rattle.verdicts.specs.Lines.{firstOf, answer}
 use Rattle.job.specs.Memory.{memOf}
 use Rattle.vector_rooms.specs.Rooms.{Composing, composing, worked}
-use Rattle.vector_cases.specs.Cases.{nameAt, inputAt, narrowingAt, compositionAt}
+use Rattle.vector_cases.specs.Cases.{nameAt, inputAt, narrowingAt, compositionAt, cardAt}
 use Rattle.vector_jobs.specs.Jobs.{Jobbed, jobbed, jobAt}
 use Rattle.vectors.specs.Replay.{Kept, kept, afterComposition, afterJob, replayedAt}
 
@@ -48,6 +48,10 @@ module _ (line dst args samples input work0 work1 checkpoint counts : List ℕ) 
     unfolding replayedAt
     a-job e x = rw (← is, e) (ap (λ (y : Jobbed). afterJob k y) x)
 
-  pub no-kind : (b ≡ 70 → ⊥) → (b ≡ 78 → ⊥) → (b ≡ 66 → ⊥) → (b ≡ 67 → ⊥) → (b ≡ 74 → ⊥) → answer nowhere k ≡ replayedAt line k
+  pub a-card : {r : ℕ} → b ≡ 82 → r ≡ cardAt line → answer r k ≡ replayedAt line k
   unfolding replayedAt
-  no-kind f n t c j = rw (← is, ne-eqb b 70 f, ne-eqb b 78 n, ne-eqb b 66 t, ne-eqb b 67 c, ne-eqb b 74 j)
+  a-card e n = rw (← is, e, n)
+
+  pub no-kind : (b ≡ 70 → ⊥) → (b ≡ 78 → ⊥) → (b ≡ 66 → ⊥) → (b ≡ 67 → ⊥) → (b ≡ 74 → ⊥) → (b ≡ 82 → ⊥) → answer nowhere k ≡ replayedAt line k
+  unfolding replayedAt
+  no-kind f n t c j r = rw (← is, ne-eqb b 70 f, ne-eqb b 78 n, ne-eqb b 66 t, ne-eqb b 67 c, ne-eqb b 74 j, ne-eqb b 82 r)

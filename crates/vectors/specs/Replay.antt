@@ -10,7 +10,7 @@ use Rattle.vector_lines.specs.Numbers.{nowhere}
 use Rattle.verdicts.specs.Lines.{firstOf, Answered, answer}
 use Rattle.job.specs.Memory.{memOf}
 use Rattle.vector_rooms.specs.Rooms.{Composing, composing}
-use Rattle.vector_cases.specs.Cases.{nameAt, inputAt, narrowingAt, compositionAt}
+use Rattle.vector_cases.specs.Cases.{nameAt, inputAt, narrowingAt, compositionAt, cardAt}
 use Rattle.vector_jobs.specs.Jobs.{Jobbed, jobAt}
 
 -- the lists that lines share, and their counts
@@ -72,11 +72,12 @@ afterJob k j =
 abbrev pub listsOf : Kept → Composing
 listsOf k = composing 0 (k .dst) (k .table) (k .args) (k .samples) (k .counts)
 
--- F, N, B, C and J; a line of no kind has no answer
+-- F, N, B, C, J and R; a line of no kind has no answer
 unfoldable pub replayedAt : List ℕ → Kept → Answered Kept
 replayedAt line k =
     cond (eqb (firstOf line) 70) (answer (nameAt line) k)
     (cond (eqb (firstOf line) 78) (afterNarrowing false line k)
     (cond (eqb (firstOf line) 66) (afterNarrowing true line k)
     (cond (eqb (firstOf line) 67) (afterComposition k (compositionAt line (listsOf k)))
-    (cond (eqb (firstOf line) 74) (afterJob k (jobAt line (listsOf k) (memOf (k .work0) (k .work1) (k .checkpoint)))) (answer nowhere k)))))
+    (cond (eqb (firstOf line) 74) (afterJob k (jobAt line (listsOf k) (memOf (k .work0) (k .work1) (k .checkpoint))))
+    (cond (eqb (firstOf line) 82) (answer (cardAt line) k) (answer nowhere k))))))

@@ -12,7 +12,7 @@ type Text = [u8; 0x20_0000];
 type Places = [usize; 0x4000];
 
 // The kinds of lines, and how many there are; the last two are spoiled lines, and lines of no kind.
-const KINDS: usize = 7;
+const KINDS: usize = 8;
 
 fn room() -> Text {
     [0; 0x20_0000]
@@ -51,7 +51,7 @@ fn count(
     if n >= read.len() {
         return 0;
     }
-    judge(&read[0..n], places, b"FNBCJ!", right, wrong)
+    judge(&read[0..n], places, b"FNBCJR!", right, wrong)
 }
 
 fn main() {
@@ -65,7 +65,8 @@ fn main() {
     report(b"bytes", right[2], wrong[2]);
     report(b"compositions", right[3], wrong[3]);
     report(b"jobs", right[4], wrong[4]);
-    report(b"lines of no kind", right[6], wrong[6]);
-    report(b"spoiled lines", right[5], wrong[5]);
+    report(b"cards", right[5], wrong[5]);
+    report(b"lines of no kind", right[7], wrong[7]);
+    report(b"spoiled lines", right[6], wrong[6]);
     report_first(first_wrong);
 }

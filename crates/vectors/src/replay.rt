@@ -3,6 +3,7 @@ ghost use mathlib.Core.Path.{_≡_};
 ghost use Rattle.lent.specs.Lent.{before, after};
 ghost use Rattle.verdicts.specs.Lines.{linesOf, countsFound, countsLeft, linesCounted, answer, placesFrom};
 ghost use Rattle.vectors.specs.Replay.{keptFound, keptLeft, nothingKept, replayedAt};
+use vector_cases::card;
 use vector_cases::composition;
 use vector_cases::name;
 use vector_cases::narrowing;
@@ -55,6 +56,7 @@ fn replayed(
             checkpoint,
             counts,
         ),
+        b'R' => card(line),
         _ => NOWHERE,
     }
 }

@@ -5,7 +5,7 @@ use anyhow::{Error, Result};
 use clap::Parser;
 use std::fmt;
 use std::process::ExitCode;
-use tray::{Fault, Refusal};
+use tray::{CardFault, Fault, Refusal};
 
 /// The exit codes.
 #[derive(Clone, Copy, Debug, PartialEq, Eq)]
@@ -39,6 +39,7 @@ impl Exit {
     pub fn of(error: &Error) -> Exit {
         let refused = error.is::<Fault>()
             || error.is::<Refusal>()
+            || error.is::<CardFault>()
             || matches!(error.downcast_ref(), Some(tray::Error::<Fault>::Refused(_)))
             || matches!(error.downcast_ref(), Some(tray::Error::<Refusal>::Refused(_)));
         match (error.downcast_ref::<Ended>(), error.downcast_ref()) {
@@ -108,6 +109,7 @@ mod tests {
         let busy = Error::new(Ended::new(Exit::Busy, "busy")).context("job");
         assert_eq!(Exit::of(&refused.unwrap_err()), Exit::Refused);
         assert_eq!(Exit::of(&Error::new(Fault::Operator).context("shiny")), Exit::Refused);
+        assert_eq!(Exit::of(&Error::new(CardFault { line: 3 }).context("job.card")), Exit::Refused);
         assert_eq!(Exit::of(&environment.into()), Exit::Other);
         assert_eq!(Exit::of(&busy), Exit::Busy);
         assert_eq!(Exit::of(&tray_folder::Error::Busy("job".into()).into()), Exit::Busy);

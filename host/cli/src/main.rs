@@ -1,10 +1,14 @@
-//! The command `tray`: makes a job folder from pictures and layers, runs it, shows it, takes it up, exports its picture.
+//! The command `tray`: makes a job folder from pictures and layers or from a card, runs it, shows it, takes it up, exports its
+//! picture.
 
+mod card;
+mod card_file;
 mod export;
 mod layers;
 mod layers_file;
 mod make;
 mod operators;
+mod parts;
 mod progress;
 mod run;
 mod status;
@@ -28,7 +32,7 @@ struct Command {
 
 #[derive(Subcommand)]
 enum Action {
-    /// Make a job folder from a destination and layers
+    /// Make a job folder from a destination and layers, or from a card
     Make(make::Make),
     /// Run a job from its mark on, to the end or as far as an allowance goes
     Run(run::Run),
@@ -36,6 +40,9 @@ enum Action {
     Status(status::Status),
     /// Write a job's picture as PNG, PFM, TIFF or raw words
     Export(export::Export),
+    /// Check a card, which is a job as text, or print a job's
+    #[command(subcommand, after_help = card::FORM)]
+    Card(card::CardAction),
     /// List the operators: names, aliases, what they do, arguments and their defaults
     Operators(operators::Operators),
 }
@@ -49,6 +56,7 @@ fn act(command: Command) -> Result<Exit> {
         Action::Run(run) => run.run(),
         Action::Status(status) => status.print(),
         Action::Export(export) => export.write(),
+        Action::Card(card) => card.act(),
         Action::Operators(operators) => operators.print(),
     }
 }

@@ -1,15 +1,17 @@
 //! `tray make`.
 
+use crate::card_file::CardFile;
 use crate::layers::Line;
 use crate::layers_file;
-use anyhow::{Context, Error, Result};
+use crate::parts::Parts;
+use anyhow::{ensure, Context, Result};
 use clap::Args;
 use std::collections::HashMap;
 use std::path::{Path, PathBuf};
-use tray::{Fault, Inputs, Layer, Refusal, Source, Stack};
+use tray::{Layer, Source, Stack};
 use tray_cli::exit::{Ended, Exit};
 use tray_cli::picture::Picture;
-use tray_cli::picture_file;
+use tray_cli::picture_file::{self, Format};
 use tray_cli::say::{count, say, sides};
 use tray_folder::Folder;
 
@@ -17,8 +19,8 @@ use tray_folder::Folder;
 pub struct Make {
     /// The folder to make
     job: PathBuf,
-    /// The destination: a PNG or PFM picture
-    #[arg(long, value_name = "PICTURE", required_unless_present = "on")]
+    /// The destination: a PNG or PFM picture; with --card also .raw, the words alone, low byte first
+    #[arg(long, value_name = "PICTURE", required_unless_present_any = ["on", "from"])]
     tray: Option<PathBuf>,
     /// The destination: the picture of a finished job, with all its bits
     #[arg(long, value_name = "JOB", conflicts_with = "tray")]
@@ -29,67 +31,90 @@ pub struct Make {
     /// A file with a layer a line, as for --layer and after those; pictures are looked for beside it; lines that begin with # are notes, blank lines nothing
     #[arg(long, value_name = "FILE")]
     layers: Option<PathBuf>,
+    /// The layers: a card, which `tray card --help` describes. The destination has the card's sides and channels, and its sources lie in --samples
+    #[arg(long, value_name = "FILE", conflicts_with_all = ["layer", "layers"])]
+    card: Option<PathBuf>,
+    /// The samples of a card's sources: .png or .pfm pictures, row by row, or .raw, the words alone, low byte first; several follow each other in this order
+    #[arg(long, value_name = "FILE", requires = "card")]
+    samples: Vec<PathBuf>,
+    /// The destination and the samples for a card: those of another job
+    #[arg(long, value_name = "JOB", requires = "card", conflicts_with_all = ["tray", "on", "samples"])]
+    from: Option<PathBuf>,
 }
 
 impl Make {
     pub fn make(self) -> Result<Exit> {
-        let dst = self.destination()?;
-        let mut sources = Sources::default();
-        let lines = self.lines()?;
-        let layers = lines.iter().map(|line| sources.place(line)).collect::<Result<Vec<Layer>>>()?;
-        let names =
-            lines.iter().map(|line| format!("{} {}", line.operator, line.picture.display())).collect::<Vec<_>>();
-        let Stack { table, args } = &Stack::new(&layers);
-        let inputs = Inputs {
-            width: dst.width as i64,
-            height: dst.height as i64,
-            channels: dst.channels as i64,
-            dst: &dst.words,
-            layers: layers.len() as i64,
-            table,
-            args,
-            samples: &sources.samples,
+        let parts = match &self.card {
+            Some(path) => self.of_card(CardFile::read(path)?)?,
+            None => self.of_layers()?,
         };
-        Folder::create(&self.job, &inputs, &names).map_err(|error| self.placed(error, &lines))?;
-        let (job, size) = (self.job.display(), sides(dst.width, dst.height));
-        say(format!("{job}: {size}, {}", count(layers.len() as u64, "layer")))?;
+        parts.make(&self.job)?;
+        let (job, size) = (self.job.display(), sides(parts.dst.width, parts.dst.height));
+        say(format!("{job}: {size}, {}", count(parts.stack.layers() as u64, "layer")))?;
         Ok(Exit::Done)
     }
 
-    /// A refusal with the place that it came from in front: where the layer was written, or the destination.
-    fn placed(&self, error: tray_folder::Error, lines: &[Line]) -> Error {
-        let refused = match error {
-            tray_folder::Error::Refused(_, refused) => refused,
-            other => return other.into(),
-        };
-        let place = match refused {
-            tray::Error::Refused(Refusal { fault, layer }) if fault.has_layer() => {
-                lines.get(layer as usize).map(|line| line.place.clone())
-            }
-            // The first of the layers that are too many.
-            tray::Error::Refused(Refusal { fault: Fault::Stack, .. }) => {
-                lines.get(tray::LAYERS).map(|line| line.place.clone())
-            }
-            tray::Error::Refused(Refusal { fault: Fault::Tray, .. }) => {
-                self.tray.as_ref().or(self.on.as_ref()).map(|path| path.display().to_string())
-            }
-            _ => None,
-        };
-        match place {
-            Some(place) => Error::new(refused).context(place),
-            None => refused.into(),
-        }
+    /// From layers with a picture each.
+    fn of_layers(&self) -> Result<Parts> {
+        let (dst, tray) = self.destination(None)?;
+        let mut sources = Sources::default();
+        let lines = self.lines()?;
+        let layers = lines.iter().map(|line| sources.place(line)).collect::<Result<Vec<Layer>>>()?;
+        let name = |line: &Line| format!("{} {}", line.operator, line.picture.display());
+        Ok(Parts {
+            dst,
+            tray,
+            stack: Stack::new(&layers),
+            names: lines.iter().map(name).collect(),
+            places: lines.into_iter().map(|line| line.place).collect(),
+            samples: sources.samples,
+        })
     }
 
-    fn destination(&self) -> Result<Picture> {
-        match (&self.tray, &self.on) {
-            (Some(path), _) => picture_file::load(path),
-            (None, Some(path)) => {
+    /// From a card, whose sources lie in the samples.
+    fn of_card(&self, file: CardFile) -> Result<Parts> {
+        let (dst, tray) = self.destination(Some(file.shape()))?;
+        let (has, says) = ([dst.width, dst.height, dst.channels], file.shape());
+        ensure!(has == says, "{tray}: {}, and {} has {}", in_words(has), file.line(1), in_words(says));
+        let samples = self.samples()?;
+        let (mut names, mut places) = (vec![], vec![]);
+        for (layer, number) in file.card.to_layers()?.iter().zip(2..) {
+            let (line, end) = (file.line(number), layer.source.end());
+            names.push(format!("{}, {line}", layer.operator));
+            // All else was asked when the card was read.
+            places.push(format!("{line}: its source ends at sample {end}, and there are {}", samples.len()));
+        }
+        Ok(Parts { dst, tray, stack: file.card.stack, names, places, samples })
+    }
+
+    /// The destination and where it comes from. Raw words have the width, height and channels that a card says.
+    fn destination(&self, shape: Option<[usize; 3]>) -> Result<(Picture, String)> {
+        let (path, picture) = match (&self.tray, &self.on, &self.from) {
+            (Some(path), ..) => match shape {
+                Some(shape) if picture_file::format(path) == Some(Format::Raw) => (path, raw(path, shape)?),
+                _ => (path, picture_file::load(path)?),
+            },
+            (None, Some(path), _) => {
                 let below = Folder::open(path)?;
                 let words = below.finished()?;
-                Ok(Picture { width: below.width(), height: below.height(), channels: 4, words })
+                (path, Picture { width: below.width(), height: below.height(), channels: 4, words })
             }
-            (None, None) => unreachable!("clap asks for one of them"),
+            (None, None, Some(path)) => {
+                let other = Folder::open(path)?;
+                let words = other.dst()?.list().to_vec();
+                let (width, height, channels) = (other.width(), other.height(), other.channels());
+                (path, Picture { width, height, channels, words })
+            }
+            (None, None, None) => unreachable!("clap asks for one of them"),
+        };
+        Ok((picture, path.display().to_string()))
+    }
+
+    /// The samples of a card's sources.
+    fn samples(&self) -> Result<Vec<u32>> {
+        match &self.from {
+            Some(path) => Ok(Folder::open(path)?.samples()?.list().to_vec()),
+            None => Ok(self.samples.iter().map(|path| picture_file::words(path)).collect::<Result<Vec<_>>>()?.concat()),
         }
     }
 
@@ -104,6 +129,20 @@ impl Make {
         }
         Ok(lines)
     }
+}
+
+/// A picture's width, height and channels.
+fn in_words([width, height, channels]: [usize; 3]) -> String {
+    format!("{}, {}", sides(width, height), count(channels as u64, "channel"))
+}
+
+/// The raw words of a picture.
+fn raw(path: &Path, shape: [usize; 3]) -> Result<Picture> {
+    let words = picture_file::words(path)?;
+    let [width, height, channels] = shape;
+    let (has, wanted) = (words.len(), width * height * channels);
+    ensure!(has == wanted, "{}: {has} samples, and {} have {wanted}", path.display(), in_words(shape));
+    Ok(Picture { width, height, channels, words })
 }
 
 /// The sources' samples, each file's once.

@@ -1,8 +1,8 @@
-//! The file of a picture: its format, which its name ends in, and reading it.
+//! The file of a picture or of samples: its format, which its name ends in, and reading it.
 
 use crate::picture::Picture;
 use crate::{pfm, png_file};
-use anyhow::{bail, Context, Result};
+use anyhow::{bail, ensure, Context, Result};
 use std::path::Path;
 
 #[derive(Clone, Copy, Debug, PartialEq, Eq)]
@@ -32,4 +32,18 @@ pub fn load(path: &Path) -> Result<Picture> {
     };
     let bytes = std::fs::read(path).with_context(|| path.display().to_string())?;
     read(&bytes).with_context(|| path.display().to_string())
+}
+
+/// The words of a file of samples: a picture's, row by row, or those of a raw file, low byte first.
+pub fn words(path: &Path) -> Result<Vec<u32>> {
+    let name = || path.display().to_string();
+    match format(path) {
+        Some(Format::Png | Format::Pfm) => Ok(load(path)?.words),
+        Some(Format::Raw) => {
+            let bytes = std::fs::read(path).with_context(name)?;
+            ensure!(bytes.len() % 4 == 0, "{}: has {} bytes, and a sample has 4", name(), bytes.len());
+            Ok(bytes.chunks_exact(4).map(|b| u32::from_le_bytes([b[0], b[1], b[2], b[3]])).collect())
+        }
+        _ => bail!("{}: samples are read from .png, .pfm or .raw", name()),
+    }
 }

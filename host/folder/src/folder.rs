@@ -8,7 +8,7 @@ use crate::description::{Description, INPUTS};
 use crate::digest::digest;
 use crate::error::{At, Error, Result};
 use crate::list::List;
-use crate::system::bytes;
+use crate::system::{bytes, Element};
 use crate::{held, storage, system};
 use std::fs::{self, File, OpenOptions};
 use std::io::ErrorKind;
@@ -231,31 +231,33 @@ impl Folder {
         is_at(&lock.file, &self.at(LOCK))
     }
 
-    /// The destination.
+    /// The destination. As each input it must be what the job was made with, or it is refused.
     pub fn dst(&self) -> Result<List<u32>> {
-        List::read(&self.at(INPUTS[0]), self.pixels() * self.job.channels)
+        self.input(0, self.pixels() * self.job.channels)
     }
 
-    pub(crate) fn table(&self) -> Result<List<i64>> {
-        List::read(&self.at(INPUTS[1]), self.job.layers * COLUMNS)
+    /// The layers' numbers, as [`Inputs::table`] has them.
+    pub fn table(&self) -> Result<List<i64>> {
+        self.input(1, self.job.layers * COLUMNS)
     }
 
-    pub(crate) fn args(&self) -> Result<List<u32>> {
-        List::read(&self.at(INPUTS[2]), self.job.layers * ARGUMENTS)
+    /// The layers' arguments, as [`Inputs::args`] has them.
+    pub fn args(&self) -> Result<List<u32>> {
+        self.input(2, self.job.layers * ARGUMENTS)
     }
 
-    pub(crate) fn samples(&self) -> Result<List<u32>> {
-        List::read(&self.at(INPUTS[3]), self.job.samples)
+    /// The sources' samples.
+    pub fn samples(&self) -> Result<List<u32>> {
+        self.input(3, self.job.samples)
     }
 
-    /// Refuses inputs that are not those that the job was made with.
-    pub(crate) fn unchanged(&self, inputs: [&[u8]; 4]) -> Result<()> {
-        for ((name, kept), bytes) in INPUTS.iter().zip(self.job.digests).zip(inputs) {
-            if digest(bytes) != kept {
-                return Error::wrong(&self.at(name), "changed since the job was made; a job's inputs stay the same");
-            }
+    fn input<T: Element>(&self, k: usize, length: usize) -> Result<List<T>> {
+        let path = self.at(INPUTS[k]);
+        let list = List::read(&path, length)?;
+        match digest(list.bytes()) == self.job.digests[k] {
+            true => Ok(list),
+            false => Error::wrong(&path, "changed since the job was made; a job's inputs stay the same"),
         }
-        Ok(())
     }
 
     /// The bytes of a work buffer now. They are read and not mapped, since a worker may be writing them.

@@ -56,7 +56,6 @@ impl Worker {
         }
         let here = folder.here()?;
         let (dst, table, args, samples) = (folder.dst()?, folder.table()?, folder.args()?, folder.samples()?);
-        folder.unchanged([dst.bytes(), table.bytes(), args.bytes(), samples.bytes()])?;
         let work = |k: usize| {
             let path = folder.at(WORK[k]);
             let list = List::write(&path, 4 * folder.pixels())?;

@@ -225,9 +225,25 @@ fn changed_inputs() {
         change_byte(&path, 40);
         let said = says(Worker::new(&folder, folder.lock(false).unwrap(), Durable::Phase));
         assert!(said.starts_with(&format!("{}: changed since the job was made", path.display())), "{said}");
+        // Only the one that has changed cannot be read.
+        let read =
+            [folder.dst().map(drop), folder.table().map(drop), folder.args().map(drop), folder.samples().map(drop)];
+        let refused: Vec<String> = read.into_iter().filter_map(|read| read.err()).map(|e| e.to_string()).collect();
+        assert_eq!(refused, [said]);
         change_byte(&path, 40);
     }
     assert_eq!(finish(&folder), whole);
+}
+
+#[test]
+fn inputs_as_they_were_given() {
+    let folder = make_with(&room("given").join("job"), 7);
+    let table = folder.table().unwrap();
+    let rows: Vec<&[i64]> = table.list().chunks(tray::COLUMNS).collect();
+    assert_eq!(rows[2], [4, 0, 1, 7, 60, 0, WIDTH as i64, HEIGHT as i64, 4, 0]);
+    assert_eq!((rows.len(), folder.args().unwrap().list()), (LAYERS, &[0; LAYERS * tray::ARGUMENTS][..]));
+    assert_eq!(folder.samples().unwrap().list(), folder.dst().unwrap().list());
+    assert_eq!(folder.dst().unwrap().list().len() as u64, 4 * PIXELS);
 }
 
 /// An input that changes while a worker has it: what was made of it is never called finished, nor taken up.

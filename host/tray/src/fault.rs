@@ -28,11 +28,13 @@ pub enum Fault {
     Mark = 10,
     /// Narrowing: the wanted channels, the input's length or the output's length.
     Narrow = 11,
+    /// A card with a line out of form or a layer too many.
+    Card = 12,
 }
 
 impl Fault {
     /// All faults, in the order of their numbers.
-    pub const ALL: [Fault; 11] = [
+    pub const ALL: [Fault; 12] = [
         Fault::Stack,
         Fault::Tray,
         Fault::Operator,
@@ -44,14 +46,15 @@ impl Fault {
         Fault::Work,
         Fault::Mark,
         Fault::Narrow,
+        Fault::Card,
     ];
 
-    /// The library's number, 1 to 11.
+    /// The library's number, 1 to 12.
     pub fn number(self) -> u64 {
         self as u64
     }
 
-    /// Document 01's word for it.
+    /// The documents' word for it.
     pub fn word(self) -> &'static str {
         match self {
             Fault::Stack => "STACK",
@@ -65,6 +68,7 @@ impl Fault {
             Fault::Work => "WORK",
             Fault::Mark => "MARK",
             Fault::Narrow => "NARROW",
+            Fault::Card => "CARD",
         }
     }
 
@@ -82,6 +86,7 @@ impl Fault {
             Fault::Work => "a work buffer has 4 x width x height samples",
             Fault::Mark => "the mark is one number, at most (layers + 1) x width x height",
             Fault::Narrow => "1, 3 or 4 channels from whole pixels of four, into an output of that length",
+            Fault::Card => "a line out of form, or a layer too many",
         }
     }
 
@@ -94,7 +99,7 @@ impl Fault {
     pub(crate) fn check(number: u64) -> Result<(), Fault> {
         match number {
             0 => Ok(()),
-            n => Err(*Fault::ALL.get(n as usize - 1).expect("the library answers 0 to 11")),
+            n => Err(*Fault::ALL.get(n as usize - 1).expect("the library answers 0 to 12")),
         }
     }
 }
@@ -127,6 +132,22 @@ impl fmt::Display for Refusal {
 }
 
 impl std::error::Error for Refusal {}
+
+/// A card that is refused, as [`Fault::Card`]: the first line that is out of form or a layer too many.
+#[derive(Clone, Copy, Debug, PartialEq, Eq, Hash)]
+pub struct CardFault {
+    /// The line, counted from 1, which is 1 for an empty text; 0 where lists have another length than the layers ask for.
+    pub line: u64,
+}
+
+impl fmt::Display for CardFault {
+    fn fmt(&self, f: &mut fmt::Formatter) -> fmt::Result {
+        let fault = Fault::Card;
+        write!(f, "refused: {} {} at line {}: {}", fault.number(), fault.word(), self.line, fault.meaning())
+    }
+}
+
+impl std::error::Error for CardFault {}
 
 /// Why a call that computes has written nothing: the library refused it, with R as its answer, or it was not called because
 /// of the thread's floating-point environment.

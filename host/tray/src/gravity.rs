@@ -1,5 +1,6 @@
 //! Where a source lies on the destination before its offset counts.
 
+use crate::fault::Fault;
 use std::error::Error;
 use std::fmt;
 use std::str::FromStr;
@@ -64,6 +65,16 @@ impl Gravity {
             Gravity::South => "south",
             Gravity::SouthEast => "southeast",
         }
+    }
+}
+
+/// The gravity of a number; [`Fault::Placing`] for one above 9, as the library answers.
+impl TryFrom<u64> for Gravity {
+    type Error = Fault;
+
+    fn try_from(number: u64) -> Result<Self, Fault> {
+        let known = usize::try_from(number).ok().and_then(|n| Gravity::ALL.get(n));
+        known.copied().ok_or(Fault::Placing)
     }
 }
 

@@ -1,7 +1,9 @@
 //! A job's inputs. The fields are the library's own numbers, signed and unchecked: the library decides what it refuses.
 
+use crate::fault::Fault;
 use crate::gravity::Gravity;
 use crate::operator::Operator;
+use crate::raw::floats;
 
 /// Numbers a layer in the table.
 pub const COLUMNS: usize = 10;
@@ -48,6 +50,19 @@ impl Flags {
     }
 }
 
+/// The flags of a number; [`Fault::Flags`] for one that is not 0 to 63, as the library answers.
+impl TryFrom<i64> for Flags {
+    type Error = Fault;
+
+    fn try_from(number: i64) -> Result<Self, Fault> {
+        let on = |bit: i64| (number >> bit) & 1 == 1;
+        match number {
+            0..=63 => Ok(Flags { tile: on(0), overlay: on(1), channels: [on(2), on(3), on(4), on(5)] }),
+            _ => Err(Fault::Flags),
+        }
+    }
+}
+
 /// A source picture's place in the samples. It has no default: a source is a picture that the host has.
 #[derive(Clone, Copy, Debug, PartialEq, Eq)]
 pub struct Source {
@@ -59,6 +74,13 @@ pub struct Source {
     pub height: i64,
     /// 1 is gray, 3 are red, green and blue, 4 have alpha too.
     pub channels: i64,
+}
+
+impl Source {
+    /// The place after its last sample, for numbers that the library accepts.
+    pub fn end(&self) -> i64 {
+        self.first + self.width * self.height * self.channels
+    }
 }
 
 /// One layer of a job, or of a single composition.
@@ -107,6 +129,21 @@ impl Layer {
         ]
     }
 
+    /// The layer of a row and its arguments, or the library's fault of a number that this type has no value for. The
+    /// arguments are taken by their bits.
+    pub(crate) fn of_row(row: &[i64], words: &[u32]) -> Result<Self, Fault> {
+        let natural = |number: i64, fault: Fault| u64::try_from(number).map_err(|_| fault);
+        let count = usize::try_from(row[9]).ok().filter(|count| *count <= ARGUMENTS).ok_or(Fault::Arguments);
+        Ok(Layer {
+            operator: natural(row[0], Fault::Operator)?.try_into()?,
+            gravity: natural(row[1], Fault::Placing)?.try_into()?,
+            offset: (row[2], row[3]),
+            flags: row[4].try_into()?,
+            source: Source { first: row[5], width: row[6], height: row[7], channels: row[8] },
+            arguments: floats(words)[..count?].to_vec(),
+        })
+    }
+
     fn words(&self) -> [u32; ARGUMENTS] {
         let mut words = [0; ARGUMENTS];
         for (word, value) in words.iter_mut().zip(&self.arguments) {
@@ -137,6 +174,17 @@ impl Stack {
     /// The count of layers.
     pub fn layers(&self) -> i64 {
         (self.table.len() / COLUMNS) as i64
+    }
+
+    /// Whether the lists have the numbers and arguments of as many layers, and no more.
+    pub(crate) fn is_whole(&self) -> bool {
+        let layers = self.table.len() / COLUMNS;
+        (self.table.len(), self.args.len()) == (layers * COLUMNS, layers * ARGUMENTS)
+    }
+
+    /// A row and its arguments for each layer.
+    pub(crate) fn rows(&self) -> impl Iterator<Item = (&[i64], &[u32])> {
+        self.table.chunks_exact(COLUMNS).zip(self.args.chunks_exact(ARGUMENTS))
     }
 }
 

@@ -27,10 +27,13 @@
 //! stopped worker is gone before the next call starts, and nothing else writes the job's memory until it is finished.
 //! examples/job.rs is a host with such a job.
 //!
+//! A card ([`Card`]) is a job as text, which people keep and edit.
+//!
 //! A call that computes asks first whether the calling thread's arithmetic is the library's ([`environment`]).
 
 #![deny(missing_docs)]
 
+mod card;
 mod environment;
 mod fault;
 mod gravity;
@@ -40,8 +43,9 @@ mod memory;
 mod operator;
 pub mod raw;
 
+pub use card::Card;
 pub use environment::{environment, Environment};
-pub use fault::{Error, Fault, Refusal};
+pub use fault::{CardFault, Error, Fault, Refusal};
 pub use gravity::{Gravity, UnknownGravity};
 pub use job::{job, phase, total, Progress};
 pub use layer::{Flags, Inputs, Layer, Source, Stack, ARGUMENTS, COLUMNS, LAYERS, OFFSET, SIDE};

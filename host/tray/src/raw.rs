@@ -50,6 +50,19 @@ extern "C" {
         stores: *mut u64,
         finished: *mut u64,
     ) -> u64;
+    fn tray_read_card(
+        text: *const u8,
+        text_length: usize,
+        table: *mut i64,
+        table_length: usize,
+        args: *mut u32,
+        args_length: usize,
+        line: *mut u64,
+        width: *mut i64,
+        height: *mut i64,
+        channels: *mut i64,
+        layers: *mut i64,
+    ) -> u64;
 }
 
 /// A call that begins with a job's inputs, a list as its pointer and its length; the count of layers stands after the
@@ -112,6 +125,41 @@ pub fn job(
             work1.as_mut_ptr(), work1.len(),
             mark.as_mut_ptr(), mark.len(),
             layer, stores, finished
+        )
+    }
+}
+
+/// What `tray_read_card` answers besides its number: each call writes all five.
+#[derive(Clone, Copy, Debug, Default, PartialEq, Eq)]
+pub struct CardAnswers {
+    /// The line at fault, counted from 1; 0 where the lists have another length, and where there is no fault.
+    pub line: u64,
+    /// The destination's pixels in a row.
+    pub width: i64,
+    /// The destination's rows.
+    pub height: i64,
+    /// The destination's channels.
+    pub channels: i64,
+    /// The count of layers.
+    pub layers: i64,
+}
+
+/// `tray_read_card`: the answer is 0 or 12; table and arguments are written only with 0.
+pub fn read_card(text: &[u8], table: &mut [i64], args: &mut [u32], answers: &mut CardAnswers) -> u64 {
+    let CardAnswers { line, width, height, channels, layers } = answers;
+    unsafe {
+        tray_read_card(
+            text.as_ptr(),
+            text.len(),
+            table.as_mut_ptr(),
+            table.len(),
+            args.as_mut_ptr(),
+            args.len(),
+            line,
+            width,
+            height,
+            channels,
+            layers,
         )
     }
 }

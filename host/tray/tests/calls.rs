@@ -220,7 +220,7 @@ fn samples_as_words() {
 #[test]
 fn faults_by_number_and_word() {
     let numbers: Vec<u64> = Fault::ALL.iter().map(|fault| fault.number()).collect();
-    assert_eq!(numbers, (1..=11).collect::<Vec<u64>>());
+    assert_eq!(numbers, (1..=12).collect::<Vec<u64>>());
     let refusal = Refusal { fault: Fault::Operator, layer: 2 };
     assert_eq!(refusal.to_string(), "refused: 3 OPERATOR in layer 2: no such operator");
     assert!(Fault::Tray.to_string().starts_with("refused: 2 TRAY: "));

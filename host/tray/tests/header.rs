@@ -81,3 +81,11 @@ fn the_same_arguments() {
     let list: Vec<&str> = list.skip(1).take_while(|line| *line != " *").collect();
     assert_eq!(list, wanted);
 }
+
+/// The header's list of aliases is the table's, in its order.
+#[test]
+fn the_same_aliases() {
+    let aliases = Operator::ALL.into_iter().flat_map(Operator::aliases).copied();
+    let wanted = format!(" *    {}", aliases.collect::<Vec<_>>().join(" "));
+    assert!(HEADER.lines().any(|line| line == wanted), "{wanted}");
+}

@@ -5,14 +5,17 @@
 //! that the vectors' program can replay.
 //!
 //! stream grays COUNT SEED: instead of these COUNT random pixels, narrowed to one channel as words and as bytes.
+//!
+//! stream cards COUNT SEED: instead COUNT random texts, read as cards, against the model of document 02.
 
 use oracle::compare::{agrees, answered, expected};
-use oracle::lines::{Case, Outcome, Request, alone};
+use oracle::lines::{Case, FILL, FILL_INTEGER, Outcome, Request, alone};
 use oracle::ours;
 use oracle::random::Random;
 use oracle::request::{Memory, Side};
 use oracle::restated::{Reading, Restated};
 use oracle::shrink::shrink;
+use std::fmt::Debug;
 
 #[derive(Default)]
 struct Counts {
@@ -26,6 +29,9 @@ struct Counts {
     narrowings: u64,
     names: u64,
     grays: u64,
+    cards: u64,
+    accepted_cards: u64,
+    layers: u64,
 }
 
 struct Stream {
@@ -58,6 +64,11 @@ impl Stream {
                 counts.stores += answers.iter().map(|(a, _)| a.stores).sum::<u64>();
             }
             (Request::Name(_), _) => counts.names += 1,
+            (_, Outcome::Card { answer, .. }) => {
+                counts.cards += 1;
+                counts.accepted_cards += (answer.number == 0) as u64;
+                counts.layers += answer.layers as u64;
+            }
             _ => counts.narrowings += 1,
         }
     }
@@ -91,15 +102,22 @@ impl Stream {
         }
     }
 
+    /// Texts of cards.
+    fn cards(&mut self, count: u64, random: &mut Random) {
+        for _ in 0..count {
+            self.compare(random.card());
+        }
+    }
+
     fn report(&self, case: Case) -> ! {
         std::panic::set_hook(Box::new(|_| {}));
         let least = expected(shrink(case.request, |request| !agrees(&*self.side, &expected(request.clone()))));
         println!("MISMATCH. The smallest case found, with the answer of the reference:");
-        println!("{}", alone(&least));
+        show(&least);
         match answered(&*self.side, &least.request) {
             Some(got) => {
                 println!("The other side's answer:");
-                println!("{}", alone(&Case { request: least.request, expected: got }));
+                show(&Case { request: least.request, expected: got });
             }
             None => println!("The other side gave no answer."),
         }
@@ -107,12 +125,26 @@ impl Stream {
     }
 }
 
+/// A case as a line; a card's text, answer and lists also for a person's eyes.
+fn show(case: &Case) {
+    println!("{}", alone(case));
+    if let (Request::Card { text, .. }, Outcome::Card { answer, table, args }) = (&case.request, &case.expected) {
+        println!("\"{}\"\n{answer:?}", text.escape_ascii());
+        println!("table {}, arguments {}", told(table, FILL_INTEGER), told(args, FILL));
+    }
+}
+
+/// A list that a call may have filled.
+fn told<T: PartialEq + Debug>(list: &[T], fill: T) -> String {
+    if list.iter().all(|n| *n == fill) { "as before".to_string() } else { format!("{list:?}") }
+}
+
 fn main() {
     let words: Vec<String> = std::env::args().skip(1).collect();
-    let grays = words.first().is_some_and(|word| word == "grays");
-    let numbers: Vec<u64> = words[grays as usize..].iter().filter_map(|word| word.parse().ok()).collect();
+    let kind = words.first().map(String::as_str).filter(|word| ["grays", "cards"].contains(word));
+    let numbers: Vec<u64> = words[kind.is_some() as usize..].iter().filter_map(|word| word.parse().ok()).collect();
     let [count, seed] = numbers[..] else {
-        eprintln!("stream [grays] COUNT SEED");
+        eprintln!("stream [grays | cards] COUNT SEED");
         std::process::exit(2)
     };
     let (side, name): (Box<dyn Side>, _) = match ours::linked() {
@@ -121,18 +153,26 @@ fn main() {
     };
     let mut random = Random::new(seed);
     let mut stream = Stream { side, counts: Counts::default() };
-    if grays {
-        stream.grays(count, &mut random);
-    } else {
-        stream.requests(count, &mut random);
+    match kind {
+        Some("grays") => stream.grays(count, &mut random),
+        Some(_) => stream.cards(count, &mut random),
+        None => stream.requests(count, &mut random),
     }
     let c = stream.counts;
-    let rust = if cfg!(feature = "unchanged") { "the Rust with deep.rs as it is" } else { "the Rust" };
-    println!("{rust} against {name}, seed {seed}: no mismatch");
-    if grays {
-        println!("pixels narrowed to one channel {}, each as a word and as a byte", c.grays);
-        return;
+    let judge = match kind {
+        Some("cards") => "document 02's card",
+        _ if cfg!(feature = "unchanged") => "the Rust with deep.rs as it is",
+        _ => "the Rust",
+    };
+    println!("{judge} against {name}, seed {seed}: no mismatch");
+    match kind {
+        Some("grays") => println!("pixels narrowed to one channel {}, each as a word and as a byte", c.grays),
+        Some(_) => println!("texts {} ({} accepted, with {} layers)", c.cards, c.accepted_cards, c.layers),
+        None => report_requests(&c),
     }
+}
+
+fn report_requests(c: &Counts) {
     println!("compositions {} ({} refused, {} pixels)", c.compositions, c.refused, c.pixels);
     println!("jobs {}, their calls {} ({} refused, {} stores)", c.jobs, c.calls, c.refused_calls, c.stores);
     println!("narrowings {}, names {}", c.narrowings, c.names);

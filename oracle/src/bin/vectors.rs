@@ -15,6 +15,7 @@
 //! C width height channels DST TABLE ARGS SAMPLES length   number OUT
 //! J width height channels DST layers TABLE ARGS SAMPLES WORK0 WORK1 MARK ALLOWANCES
 //!     {number layer stores finished mark} for each allowance, then WORK0 WORK1 MARK
+//! R TEXT table args                                       number line width height channels layers TABLE ARGS
 //! ```
 //!
 //! What is asked stands first, then what must be answered; oracle/README.md says more of each.
@@ -33,7 +34,7 @@ fn main() -> std::io::Result<()> {
 }
 
 /// What a program that replays the file has to hold at most: bytes of a line, and numbers of each list.
-const LIMITS: [(&str, usize); 12] = [
+const LIMITS: [(&str, usize); 15] = [
     ("line", 8191),
     ("name", 128),
     ("narrowing input", 256),
@@ -46,6 +47,9 @@ const LIMITS: [(&str, usize); 12] = [
     ("work", 256),
     ("mark", 4),
     ("allowances", 16),
+    ("card", 2048),
+    ("card table", 320),
+    ("card args", 128),
 ];
 
 /// Counts the cases, and holds the lengths against the limits.
@@ -88,6 +92,11 @@ fn lengths(request: &Request, seen: &mut impl FnMut(&'static str, usize)) {
             seen("mark", memory.mark.len());
             seen("allowances", allowances.len());
             lists(job, seen);
+        }
+        Request::Card { text, table, args } => {
+            seen("card", text.len());
+            seen("card table", *table);
+            seen("card args", *args);
         }
     }
 }

@@ -1,7 +1,9 @@
-//! The fixed vectors: what is asked. Every answer comes from the compiled Rust, or from the model over it.
+//! The fixed vectors: what is asked. Every answer comes from the compiled Rust, or from the model over it; a card's from the
+//! model of the card.
 
 mod arguments;
 mod book;
+mod cards;
 mod jobs;
 mod layer;
 mod names;
@@ -28,6 +30,7 @@ pub fn all() -> Book {
     traps::put(&mut book);
     refusals::put(&mut book);
     jobs::put(&mut book);
+    cards::put(&mut book);
     spoiled::put(&mut book);
     book
 }

@@ -2,7 +2,7 @@
 
 use super::book::Book;
 use crate::lines::Request;
-use crate::reference::{self, ALIASES};
+use crate::reference;
 
 const NEAR: &[&[u8]] = &[
     b"",
@@ -109,7 +109,7 @@ const NEAR: &[&[u8]] = &[
 ];
 
 pub fn put(book: &mut Book) {
-    let known: Vec<&str> = (0..70).map(reference::name).chain(ALIASES).collect();
+    let known: Vec<&str> = reference::names().collect();
     assert_eq!(known.len(), 83);
     book.note("names: the 70 names and 13 aliases");
     for name in &known {

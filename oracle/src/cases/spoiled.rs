@@ -9,7 +9,7 @@ use crate::model::Reference;
 use crate::request::{Memory, words};
 use crate::restated::{Reading, Restated, Wrong};
 
-/// A case of each kind, small enough that every number of its answer is spoiled in turn.
+/// A case of each kind, small enough that its answer is spoiled number by number.
 fn cases() -> Vec<Case> {
     let job = pairs(6, &[([0.25, 0.5, 0.75, 1.0], [0.5, 0.75, 1.0, 0.5])], &[]);
     let input = job.dst.clone();
@@ -23,6 +23,8 @@ fn cases() -> Vec<Case> {
         Request::Compose { job: job.clone(), length: 4 },
         Request::Compose { job: job.clone(), length: 5 },
         Request::Calls { job, memory, allowances: vec![3, 100, 0] },
+        Request::Card { text: super::cards::CARD.into(), table: 160, args: 64 },
+        Request::Card { text: super::cards::TRAY.trim_end().into(), table: 160, args: 64 },
     ];
     requests.into_iter().map(expected).collect()
 }
@@ -42,7 +44,9 @@ fn spoiled(asked: &str, answered: &str) -> Vec<String> {
         let all = tokens.iter().enumerate().map(|(k, t)| format!(" {}", if k == i { token } else { t }));
         format!("{asked}{}", all.collect::<String>())
     };
-    let mut lines: Vec<String> = (0..tokens.len()).map(|i| with(i, &changed(tokens[i]))).collect();
+    // Of a card's lists, which are longer than all others here, only some of the zeros.
+    let some = (0..tokens.len()).filter(|i| *i < 28 || i % 20 == 0 || *i + 1 == tokens.len());
+    let mut lines: Vec<String> = some.map(|i| with(i, &changed(tokens[i]))).collect();
     lines.push(with(0, &format!("0{}", tokens[0])));
     lines.push(with(0, &format!(" {}", tokens[0])));
     lines.push(with(0, &format!("+{}", tokens[0])));

@@ -1,5 +1,5 @@
 //! Document 01 worked out a second time, with no line of the Rust: float steps, operators, placing, names,
-//! narrowing, faults and the job, one store after the other; the gray as document 02 has it. Each place where
+//! narrowing, faults and the job, one store after the other; the gray and the card as document 02 has them. Each place where
 //! a reader may go wrong has a switch (`wrong.rs`); with none set this agrees with the Rust and its model on
 //! every request.
 
@@ -7,6 +7,7 @@
 #![allow(clippy::neg_cmp_op_on_partial_ord)]
 
 mod blend;
+mod card;
 mod checks;
 mod convention;
 mod hsl;
@@ -23,7 +24,7 @@ pub mod wrong;
 
 pub use wrong::{Reading, Wrong};
 
-use crate::request::{Answer, Job, Memory, Side};
+use crate::request::{Answer, CardAnswer, Job, Memory, Side};
 use place::Beneath;
 
 /// This module as a side of a comparison.
@@ -88,5 +89,9 @@ impl Side for Restated {
             }
             None => self.reading.accepted(job, allowance, memory),
         }
+    }
+
+    fn read_card(&self, text: &[u8], table: &mut [i64], args: &mut [u32]) -> CardAnswer {
+        self.reading.read_card(text, table, args)
     }
 }

@@ -38,6 +38,8 @@ macro_rules! misreadings {
             Strict(Bound),
             Loose(Bound),
             RowOrder(usize),
+            CardShape(usize),
+            CardColumns(usize),
         }
         const SINGLE: &[(Wrong, &str, &str)] = &[$($((Wrong::$name, $group, $text),)+)+];
     };
@@ -365,6 +367,87 @@ misreadings! {
     FinishedNextTime "finished only by the call after the last store"
     RefusalFinished "a refused call answers finished on a finished mark"
     RefusalResetsMark "a refusal sets the mark to 0";
+
+    "numbers of a card":
+    CardLeadingZero "a leading zero is taken"
+    CardMinusZero "-0 is taken"
+    CardPlus "a plus is taken"
+    CardNineDigits "at most nine digits"
+    CardElevenDigits "at most eleven digits"
+    CardMinusIsDigit "the minus is one of the ten digits"
+    CardNoMinus "a minus is out of form"
+    CardTo32Bits "numbers are cut to 32 bits"
+    CardChecksJob "a gravity or flags that no job may have are out of form";
+
+    "arguments of a card":
+    CardSevenDigits "seven digits are taken"
+    CardNineHexDigits "nine digits are taken"
+    CardCapitalDigits "capital digits are taken"
+    CardEmptyArgument "`(args )` is taken"
+    CardNoArguments "a layer without `(args)` is taken"
+    CardThreeArguments "a fourth argument is too many"
+    CardFiveArguments "a fifth argument is dropped"
+    CardNanStored "a NaN becomes 7FC00000"
+    CardBytesTurned "the low byte stands first"
+    CardCountMissing "the count of arguments is not filled"
+    CardCountFour "the count of arguments is always 4"
+    CardArgumentsKept "unused arguments keep what they had";
+
+    "names of a card":
+    CardTolerantName "a name in any spelling that `from_name` takes"
+    CardCapitalName "a name with capitals is taken"
+    CardOwnNames "aliases are unknown"
+    CardCurvesUnknown "blur and interpolate are unknown"
+    CardNamePrefix "the start of a name is enough"
+    CardNameLonger "a name with more after it is known"
+    CardShortestName "the shortest name that the line goes on with is taken"
+    CardOperatorNumber "an operator's number is taken for its name"
+    CardUnknownName "an unknown name is 3";
+
+    "the form of a card":
+    CardOpenEnd "the last line needs no end"
+    CardReturn "a carriage return before a line's end is taken"
+    CardTab "a tab is taken for a space"
+    CardSpaces "several spaces are taken for one"
+    CardTrailingSpace "spaces before a line's end are taken"
+    CardEmptyLines "empty lines are left out"
+    CardEmptyLastLine "an empty line at the end is left out"
+    CardRest "what stands after the last bracket is not read"
+    CardNul "a NUL ends the text"
+    CardByteOrderMark "a byte order mark before the text is taken"
+    CardCapitals "`(Tray ..` is taken"
+    CardEditionTwo "edition 2 is taken"
+    CardAnyEdition "any edition is taken"
+    CardTrayAlone "a tray line alone is out of form"
+    CardEmptyTaken "the empty text is a card";
+
+    "what a card fills":
+    CardUpsideDown "the last line is the lowest layer"
+    CardCountsLines "the count of layers is the count of lines"
+    CardRowsKept "rows past the last layer keep what they had"
+    CardArgumentRowsKept "arguments past the last layer keep what they had"
+    CardLineOfAccepted "an accepted card answers its last line";
+
+    "refusals of a card":
+    CardLineFromZero "lines counted from 0"
+    CardLineOfLayer "layer lines counted from 1"
+    CardLastBadLine "the last line that is out of form is answered"
+    CardTooManyFirst "a layer too many looked for before the form"
+    CardTooManyAtEnd "a layer too many answers the last line"
+    CardFifteenLayers "a sixteenth layer is too many"
+    CardSeventeenLayers "a seventeenth layer is taken"
+    CardEmptyAtZero "the empty text answers line 0"
+    CardFilledFirst "rows are filled before a later line is refused"
+    CardCleared "a refusal sets both lists to 0"
+    CardShapeOfRefused "a refused card answers the tray's numbers"
+    CardLayersOfRefused "a refused card answers the layers that were read"
+    CardLengthsLast "the lists' lengths looked at after the lines"
+    CardLengthsAtOne "another length answers line 1"
+    CardTableLonger "a longer table is accepted"
+    CardArgumentsLonger "a longer list of arguments is accepted"
+    CardTableOnly "the arguments' length is not looked at"
+    CardArgumentsOnly "the table's length is not looked at"
+    CardLayersEnough "lists for the card's own layers are enough";
 }
 
 /// Every misreading with its group and what it takes for true.
@@ -406,6 +489,12 @@ pub fn all() -> Vec<(Wrong, &'static str, String)> {
     }
     for i in 0..5 {
         add(Wrong::RowOrder(i), "refusals", "faults 3 + i and 4 + i of a layer in the other order");
+    }
+    for i in 0..2 {
+        add(Wrong::CardShape(i), "what a card fills", "the tray's numbers i and i + 1 exchanged");
+    }
+    for i in 0..9 {
+        add(Wrong::CardColumns(i), "what a card fills", "columns i and i + 1 exchanged");
     }
     all
 }

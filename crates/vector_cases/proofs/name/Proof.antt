@@ -1,6 +1,6 @@
 -- `name` meets its contract, by its callees'. Assumes nothing.
 use borrow.Author.Needs.{needs}
-use Rattle.vector_cases.proofs.Laws.{name-read}
+use Rattle.vector_cases.proofs.Laws.{text-read}
 use Rattle.vector_cases.proofs.name.Statement.{statement}
 use Rattle.vector_cases.proofs.name.Tie as tie
 
@@ -13,4 +13,4 @@ name-spec =
     (λ c. search needs)
     (λ c κs. search needs)
     (λ c κs. search needs)
-    (λ c. search name-read))
+    (λ c. search text-read))

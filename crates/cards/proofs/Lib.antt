@@ -1,0 +1,16 @@
+pub mod Names
+pub mod Words
+pub mod Spelling
+pub mod Forms
+pub mod Card
+pub mod Ends
+pub mod Reading
+pub mod Arguments
+pub mod Copying
+pub mod Filling
+pub mod Counting
+pub mod Rows
+pub mod Puts
+pub mod Outcome
+pub mod Reader
+pub mod Trials

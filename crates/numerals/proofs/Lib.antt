@@ -1,0 +1,4 @@
+pub mod Bools
+pub mod Reading
+pub mod Inverse
+pub mod Numbers
