@@ -5,17 +5,20 @@
 #include <tray.h>
 
 int main(void) {
-    /* A blue destination of 4 x 1 pixels, and a red source of 2 x 1, half transparent, laid one pixel to the right. */
+    /* A blue destination of 4 x 1 pixels, and a red source of 3 x 1, half transparent, laid one pixel to the right. The layer's
+     * window has the first three columns of the destination: the last pixel stays blue. */
     static const float blue[4 * 3] = {0, 0, 1, 0, 0, 1, 0, 0, 1, 0, 0, 1};
-    static const float red[2 * 4] = {1, 0, 0, 0.5f, 1, 0, 0, 0.5f};
+    static const float red[3 * 4] = {1, 0, 0, 0.5f, 1, 0, 0, 0.5f, 1, 0, 0, 0.5f};
     static const float args[TRAY_MAX_ARGUMENTS];
     const int64_t table[TRAY_COLUMNS] = {
         [TRAY_COLUMN_OPERATOR] = TRAY_OP_OVER,
         [TRAY_COLUMN_RIGHT] = 1,
         [TRAY_COLUMN_FLAGS] = TRAY_RED | TRAY_GREEN | TRAY_BLUE | TRAY_ALPHA,
-        [TRAY_COLUMN_WIDTH] = 2,
+        [TRAY_COLUMN_WIDTH] = 3,
         [TRAY_COLUMN_HEIGHT] = 1,
         [TRAY_COLUMN_CHANNELS] = 4,
+        [TRAY_COLUMN_WINDOW_WIDTH] = 3,
+        [TRAY_COLUMN_WINDOW_HEIGHT] = TRAY_MAX_SIDE,
     };
 
     /* What a job writes: two work buffers of four samples a pixel, and the mark. Where these lie in shared memory or in a
@@ -25,7 +28,7 @@ int main(void) {
     do {
         uint64_t fault = tray_job(
             4, 1, 3, (const uint32_t *)blue, 4 * 3,
-            1, table, TRAY_COLUMNS, (const uint32_t *)args, TRAY_MAX_ARGUMENTS, (const uint32_t *)red, 2 * 4,
+            1, table, TRAY_COLUMNS, (const uint32_t *)args, TRAY_MAX_ARGUMENTS, (const uint32_t *)red, 3 * 4,
             15, (uint32_t *)work[0], 4 * 4, (uint32_t *)work[1], 4 * 4, &mark, 1,
             &layer, &stores, &finished);
         if (fault != TRAY_DONE) {

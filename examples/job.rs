@@ -1,14 +1,17 @@
 //! A host in Rust: it lends its buffers to a job, stops after each 15 stores and goes on.
 //! TRAY_LIB=FOLDER cargo run --example job --manifest-path host/tray/Cargo.toml        # FOLDER has libtray.a
 
-use tray::{floats, job, words, Inputs, Layer, Memory, Operator, Source, Stack};
+use tray::{floats, job, words, Inputs, Layer, Memory, Operator, Source, Stack, Window};
 
 fn main() -> Result<(), Box<dyn std::error::Error>> {
-    // A blue destination of 4 x 1 pixels, and a red source of 2 x 1, half transparent, laid one pixel to the right.
+    // A blue destination of 4 x 1 pixels, and a red source of 3 x 1, half transparent, laid one pixel to the right. The layer's
+    // window has the first three columns of the destination: the last pixel stays blue.
     let blue = [0.0, 0.0, 1.0].repeat(4);
-    let red = [1.0, 0.0, 0.0, 0.5].repeat(2);
-    let source = Source { first: 0, width: 2, height: 1, channels: 4 };
-    let Stack { table, args } = &Stack::new(&[Layer { offset: (1, 0), ..Layer::new(Operator::Over, source) }]);
+    let red = [1.0, 0.0, 0.0, 0.5].repeat(3);
+    let source = Source { first: 0, width: 3, height: 1, channels: 4 };
+    let window = Window { width: 3, ..Window::FULL };
+    let layer = Layer { offset: (1, 0), window, ..Layer::new(Operator::Over, source) };
+    let Stack { table, args } = &Stack::new(&[layer]);
     let (dst, samples) = (words(&blue), words(&red));
     let inputs = Inputs { width: 4, height: 1, channels: 3, dst, layers: 1, table, args, samples };
 

@@ -36,9 +36,9 @@
  * and sets it by fesetenv(FE_DFL_ENV), or by _mm_setcsr(0x1F80) on x86-64. The Rust crate host/tray
  * looks at the rounding and the subnormal numbers before each call that computes.
  *
- * Answers. 0: done. Otherwise the number of the first fault, in the order 1, 2, then 3 to 8 layer by layer, then 9, 10:
+ * Answers. 0: done. Otherwise the number of the first fault, in the order 1, 2, then layer by layer 3 to 8 and 13, then 9, 10:
  *
- *    1  STACK      layers not 1 to 16; table not 10 or arguments not 4 a layer
+ *    1  STACK      layers not 1 to 16; table not 14 or arguments not 4 a layer
  *    2  TRAY       a side of the destination not 0 to 2048; channels not 1, 3, 4; samples not width x height x channels
  *    3  OPERATOR   number not 0 to 69, or a name not known
  *    4  CURVE      operator 43 (Interpolate) or 67 (Blur), which are not carried
@@ -50,6 +50,7 @@
  *   10  MARK       the mark is not one number, or more than (layers + 1) x width x height
  *   11  NARROW     wanted channels not 1, 3, 4; input no multiple of 4 words; output not input / 4 x wanted
  *   12  CARD       a line of a card out of form or a layer too many; table or arguments not those of 16 layers
+ *   13  WINDOW     left, top, width or height of a window not 0 to 2048, each by itself
  */
 #ifndef TRAY_H
 #define TRAY_H
@@ -71,7 +72,7 @@ extern "C" {
 enum tray_limit {
     TRAY_OPERATORS = 70,        /* 3: operators are 0 to 69 */
     TRAY_MAX_LAYERS = 16,       /* 1, of a card 12 */
-    TRAY_MAX_SIDE = 2048,       /* 2 for a destination, 7 for a source */
+    TRAY_MAX_SIDE = 2048,       /* 2 for a destination, 7 for a source, 13 for each number of a window */
     TRAY_MAX_OFFSET = 1000000,  /* 5: right or down, and as far to the left or up */
     TRAY_MAX_ARGUMENTS = 4      /* 8, of a card 12: words of `args` a layer, of which TRAY_COLUMN_COUNT are read */
 };
@@ -89,10 +90,19 @@ enum tray_fault {
     TRAY_WORK = 9,
     TRAY_MARK = 10,
     TRAY_NARROW = 11,
-    TRAY_CARD = 12
+    TRAY_CARD = 12,
+    TRAY_WINDOW = 13
 };
 
-/* The layer table: ten numbers a layer, the lowest layer first. */
+/* The layer table: fourteen numbers a layer, the lowest layer first.
+ *
+ * The last four are the layer's window, in pixels of the destination: pixel (x, y), counted from 0, lies in it where
+ * left <= x < left + width and top <= y < top + height. A pixel off it keeps the bits of the picture beneath, a NaN's too,
+ * whatever tiling, overlay and the operator say; in a job it is five stores as any other. A window cuts nothing else: the
+ * source is placed and repeated, and displace and distort read the destination, as if there were none. It may reach past
+ * the destination. 0, 0, TRAY_MAX_SIDE, TRAY_MAX_SIDE holds all pixels of any, for a layer that may write everywhere. One
+ * whose width or height is 0 holds none, and its layer changes nothing; a row whose last four numbers are left 0 has such
+ * a window. */
 enum tray_column {
     TRAY_COLUMN_OPERATOR = 0,   /* enum tray_operator, or from tray_from_name */
     TRAY_COLUMN_GRAVITY = 1,    /* enum tray_gravity */
@@ -104,7 +114,11 @@ enum tray_column {
     TRAY_COLUMN_HEIGHT = 7,
     TRAY_COLUMN_CHANNELS = 8,
     TRAY_COLUMN_COUNT = 9,      /* how many of the layer's four arguments are given; the others are not read */
-    TRAY_COLUMNS = 10
+    TRAY_COLUMN_WINDOW_LEFT = 10,
+    TRAY_COLUMN_WINDOW_TOP = 11,
+    TRAY_COLUMN_WINDOW_WIDTH = 12,
+    TRAY_COLUMN_WINDOW_HEIGHT = 13,
+    TRAY_COLUMNS = 14
 };
 
 /* The operators; the command `tray operators` says what each one does. Those with arguments, and the defaults in brackets,
@@ -222,9 +236,10 @@ enum tray_flag {
  * Interpolate (43) and Blur (67) are known names, of operators that a composition refuses as 4. */
 uint64_t tray_from_name(const uint8_t *name, size_t name_length, uint64_t *operator_number);
 
-/* One layer on one destination: 0 and the whole picture, four channels, in `out`; or a number from 1 to 9, and `out` as
- * it was. The table has 10 numbers, args 4 words, out 4 x width x height. A destination or source of one channel counts
- * as that gray thrice, of one or three channels as opaque. Every sample is that of the Rust's compose_float. */
+/* One layer on one destination: 0 and the whole picture, four channels, in `out`; or a number, 1 to 9 or 13, and `out` as
+ * it was. The table has 14 numbers, args 4 words, out 4 x width x height. A destination or source of one channel counts
+ * as that gray thrice, of one or three channels as opaque. Every sample in the layer's window is that of the Rust's
+ * compose_float, and every other is the destination's. */
 uint64_t tray_compose(
     int64_t width, int64_t height, int64_t channels, const uint32_t *dst, size_t dst_length,
     const int64_t *table, size_t table_length, const uint32_t *args, size_t args_length,
@@ -245,7 +260,7 @@ uint64_t tray_narrow_bytes(int64_t wanted, const uint32_t *input, size_t input_l
  * composites layer k - 1 on work (k - 1) mod 2 into work k mod 2. A pixel is five stores: red, green, blue, alpha, then
  * the mark, raised by one. So a call gains floor(allowance / 5) pixels, or all left if fewer.
  *
- * Answers: a number from 0 to 10; *layer, the layer at fault counted from 0, and 0 where none is concerned; *stores, the
+ * Answers: a number, 0 to 10 or 13; *layer, the layer at fault counted from 0, and 0 where none is concerned; *stores, the
  * stores made; *finished, 1 when the mark is (layers + 1) x N and the picture stands in work (layers mod 2), else 0. A
  * refused call answers 0 stores, not finished, and leaves work0, work1 and mark as they were.
  *
@@ -287,12 +302,13 @@ uint64_t tray_job(
  *    then, '-' stands before it.
  *
  * Lent are the text, without an ending 0, and, however many layers the card has, table and args for the most that a job may
- * have: TRAY_COLUMNS x TRAY_MAX_LAYERS numbers, TRAY_MAX_ARGUMENTS x TRAY_MAX_LAYERS words. Every call writes the five
- * answers.
+ * have: TRAY_COLUMNS x TRAY_MAX_LAYERS numbers (224), TRAY_MAX_ARGUMENTS x TRAY_MAX_LAYERS words (64). Every call writes
+ * the five answers.
  *
  *  - 0: *line is 0, *width, *height, *channels and *layers are the card's. Row k of the table and its arguments are as line
- *    k + 2 says, with the count of arguments in TRAY_COLUMN_COUNT; arguments that are not given are 0, and so is all past
- *    the last layer. A card of its first line alone has 0 layers, which tray_job refuses as 1.
+ *    k + 2 says, with the count of arguments in TRAY_COLUMN_COUNT, and with the window 0, 0, 2048, 2048, since a card has
+ *    none; arguments that are not given are 0, and so is all past the last layer. A card of its first
+ *    line alone has 0 layers, which tray_job refuses as 1.
  *  - 12: table and args are as they were, the answers 0 but for *line. That is 0 too if table_length or args_length is
  *    another, whatever the text; otherwise the first line, counted from 1, that is out of form or a layer too many, and 1
  *    if the text is empty.

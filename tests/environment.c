@@ -17,7 +17,8 @@ enum { PIXELS = 2, WORDS = 4 * PIXELS };
 static const uint32_t dst[WORDS] = {1, HALF, HALF + 1, ONE, 0x00400000, HALF, HALF + 1, ONE};
 static const uint32_t src[WORDS] = {2, 0x33000000, 0x33000000, ONE, 3, 0x33000000, 0x33000000, ONE};
 static const uint32_t right[WORDS] = {3, HALF, HALF + 2, ONE, 0x00400003, HALF, HALF + 2, ONE};
-static const int64_t table[TRAY_COLUMNS] = {5, TRAY_NO_GRAVITY, 0, 0, TRAY_RED + TRAY_GREEN + TRAY_BLUE + TRAY_ALPHA, 0, PIXELS, 1, 4, 0};
+static const int64_t table[TRAY_COLUMNS] = {5, TRAY_NO_GRAVITY, 0, 0, TRAY_RED + TRAY_GREEN + TRAY_BLUE + TRAY_ALPHA, 0, PIXELS, 1, 4, 0,
+                                            0, 0, TRAY_MAX_SIDE, TRAY_MAX_SIDE};
 static const uint32_t args[4];
 
 static void fail(const char *what, unsigned setting) {

@@ -1,6 +1,6 @@
 /* What include/tray.h says in numbers is true of the library: each operator's number by its name, and each limit, at which
- * a call is accepted and beyond which it is refused under the number that stands beside it; and the card that it shows is
- * read as it says, and one that is refused writes nothing. */
+ * a call is accepted and beyond which it is refused under the number that stands beside it; what a window cuts; and the card
+ * that it shows is read as it says, and one that is refused writes nothing. */
 #include "../include/tray.h"
 #include <stdio.h>
 #include <string.h>
@@ -26,16 +26,22 @@ static int64_t table[TRAY_COLUMNS * (TRAY_MAX_LAYERS + 1)];
 static uint32_t args[TRAY_MAX_ARGUMENTS * (TRAY_MAX_LAYERS + 1)];
 static uint32_t picture[4 * (TRAY_MAX_SIDE + 1)], work[2][4 * (TRAY_MAX_SIDE + 1)];
 
+/* A layer whose source has one row, and which may write everywhere. */
+static void fill(int64_t *row, int64_t source) {
+    memset(row, 0, TRAY_COLUMNS * sizeof *row);
+    row[TRAY_COLUMN_WIDTH] = source;
+    row[TRAY_COLUMN_HEIGHT] = 1;
+    row[TRAY_COLUMN_CHANNELS] = 4;
+    row[TRAY_COLUMN_WINDOW_WIDTH] = TRAY_MAX_SIDE;
+    row[TRAY_COLUMN_WINDOW_HEIGHT] = TRAY_MAX_SIDE;
+}
+
 /* The first call of a job with one row of pixels and sources of one row. */
 static uint64_t job(int64_t side, int64_t source, int64_t layers, int64_t column, int64_t number) {
     uint64_t mark = 0, layer, stores, finished;
     for (int64_t k = 0; k < layers; k++) {
-        int64_t *row = table + k * TRAY_COLUMNS;
-        memset(row, 0, TRAY_COLUMNS * sizeof *row);
-        row[TRAY_COLUMN_WIDTH] = source;
-        row[TRAY_COLUMN_HEIGHT] = 1;
-        row[TRAY_COLUMN_CHANNELS] = 4;
-        row[column] = number;
+        fill(table + k * TRAY_COLUMNS, source);
+        table[k * TRAY_COLUMNS + column] = number;
     }
     size_t words = 4 * (size_t)side;
     return tray_job(side, 1, 4, picture, words, layers, table, (size_t)layers * TRAY_COLUMNS, args,
@@ -44,6 +50,59 @@ static uint64_t job(int64_t side, int64_t source, int64_t layers, int64_t column
 }
 
 static uint64_t one(int64_t column, int64_t number) { return job(1, 1, 1, column, number); }
+
+/* One layer on four pixels, with a table of this length. The source is written everywhere, repeated, and is another word than
+ * the destination in each channel. */
+static uint32_t composed[16];
+
+static uint64_t compose(const int64_t window[4], size_t numbers) {
+    static const uint32_t source[4] = {1, 2, 3, 0x3f800000};
+    uint32_t destination[16];
+    for (uint32_t i = 0; i < 16; i++) destination[i] = 0x7fc00100 + i;
+    fill(table, 1);
+    table[TRAY_COLUMN_OPERATOR] = TRAY_OP_SRC;
+    table[TRAY_COLUMN_FLAGS] = TRAY_TILE + TRAY_RED + TRAY_GREEN + TRAY_BLUE + TRAY_ALPHA;
+    memcpy(table + TRAY_COLUMN_WINDOW_LEFT, window, 4 * sizeof *window);
+    memset(composed, 0x55, sizeof composed);
+    return tray_compose(2, 2, 4, destination, 16, table, numbers, args, TRAY_MAX_ARGUMENTS, source, 4, composed, 16);
+}
+
+/* Which of the four pixels are written, as a sum of 1, 2, 4 and 8. The others have the destination's bits, which are NaNs'. */
+static uint64_t cut(int64_t left, int64_t top, int64_t width, int64_t height) {
+    const int64_t window[4] = {left, top, width, height};
+    uint64_t written = 0;
+    expect("a window", compose(window, TRAY_COLUMNS), TRAY_DONE);
+    for (uint32_t i = 0; i < 16; i++) {
+        if (composed[i - i % 4] == 1) {
+            written |= 1u << i / 4;
+        } else {
+            expect("a pixel off the window", composed[i], 0x7fc00100 + i);
+        }
+    }
+    return written;
+}
+
+static void windows(void) {
+    static const int64_t full[4] = {0, 0, TRAY_MAX_SIDE, TRAY_MAX_SIDE};
+    static const int64_t columns[4] = {TRAY_COLUMN_WINDOW_LEFT, TRAY_COLUMN_WINDOW_TOP, TRAY_COLUMN_WINDOW_WIDTH, TRAY_COLUMN_WINDOW_HEIGHT};
+    for (int k = 0; k < 4; k++) {
+        expect("a window's largest number", one(columns[k], TRAY_MAX_SIDE), TRAY_DONE);
+        expect("a window's least number", one(columns[k], 0), TRAY_DONE);
+        expect("a window's number beyond", one(columns[k], TRAY_MAX_SIDE + 1), TRAY_WINDOW);
+        expect("a window's number below", one(columns[k], -1), TRAY_WINDOW);
+    }
+    expect("the full window", cut(0, 0, TRAY_MAX_SIDE, TRAY_MAX_SIDE), 15);
+    expect("the first column", cut(0, 0, 1, 2), 5);
+    expect("the second row", cut(0, 1, 2, 1), 12);
+    expect("the last pixel", cut(1, 1, 1, 1), 8);
+    expect("a window past the destination", cut(1, 0, TRAY_MAX_SIDE, TRAY_MAX_SIDE), 10);
+    expect("a window beside the destination", cut(2, 0, TRAY_MAX_SIDE, TRAY_MAX_SIDE), 0);
+    expect("a window without width", cut(0, 0, 0, 2), 0);
+    expect("a window without height", cut(0, 0, 2, 0), 0);
+    expect("a number less in a row", compose(full, TRAY_COLUMNS - 1), TRAY_STACK);
+    expect("a row without a window", compose(full, TRAY_COLUMN_WINDOW_LEFT), TRAY_STACK);
+    for (int i = 0; i < 16; i++) expect("what a refused call leaves", composed[i], 0x55555555);
+}
 
 #define NUMBERS (TRAY_COLUMNS * TRAY_MAX_LAYERS)
 #define WORDS (TRAY_MAX_ARGUMENTS * TRAY_MAX_LAYERS)
@@ -106,7 +165,7 @@ static void names(const char *shouted, int64_t number) {
 }
 
 static void cards(void) {
-    static const int64_t row[TRAY_COLUMNS] = {TRAY_OP_OVER, TRAY_NO_GRAVITY, 3, -2, 62, 0, 2, 1, 3, 1};
+    static const int64_t row[TRAY_COLUMNS] = {TRAY_OP_OVER, TRAY_NO_GRAVITY, 3, -2, 62, 0, 2, 1, 3, 1, 0, 0, TRAY_MAX_SIDE, TRAY_MAX_SIDE};
     static const uint32_t half[TRAY_MAX_ARGUMENTS] = {0x3f000000};
     static char text[4096] = TRAY_LINE;
     reads("the card that is shown", shown, 1);
@@ -169,6 +228,7 @@ int main(void) {
     expect("a longer source", job(1, TRAY_MAX_SIDE + 1, 1, 0, 0), TRAY_SOURCE);
     expect("the most layers", job(1, 1, TRAY_MAX_LAYERS, 0, 0), TRAY_DONE);
     expect("a layer more", job(1, 1, TRAY_MAX_LAYERS + 1, 0, 0), TRAY_STACK);
+    windows();
     cards();
     return wrong;
 }

@@ -1,9 +1,8 @@
 //! Document 01's account of a job: its pictures, its store list, and the state that calls move along it. It
 //! takes the compositions from the compiled Rust and nothing from the model's calls, which it checks.
 
-use crate::model;
-use crate::reference;
 use crate::request::{Answer, Job, Memory, Picture};
+use crate::{model, reference, window};
 
 /// One entry of the store list.
 #[derive(Clone, Copy, Debug, PartialEq)]
@@ -12,7 +11,7 @@ pub enum Entry {
     Mark(u64),
 }
 
-/// Picture 0 is the widened destination, picture k is layer k - 1 on picture k - 1.
+/// Picture 0 is the widened destination, picture k is layer k - 1 on picture k - 1, whose pixels stay off the layer's window.
 pub fn pictures(job: &Job) -> Vec<Vec<u32>> {
     let of = |channels: i64, words: Vec<u32>| Picture {
         width: job.width as u32,
@@ -23,7 +22,7 @@ pub fn pictures(job: &Job) -> Vec<Vec<u32>> {
     let mut pictures = vec![reference::widen(&of(job.channels, job.dst.clone()))];
     for k in 0..job.layers as usize {
         let beneath = of(4, pictures[k].clone());
-        pictures.push(reference::compose(&beneath, &model::layer(job, k)));
+        pictures.push(window::compose(&beneath, &model::layer(job, k)));
     }
     pictures
 }

@@ -98,13 +98,13 @@ pub fn read(text: &[u8]) -> Result<Card, u64> {
 }
 
 impl CardLayer {
-    /// The ten numbers of the layer's row.
+    /// The numbers of the layer's row. Edition 1 has no windows: the row's holds every tray (A.3).
     fn row(&self) -> [i64; COLUMNS] {
         let operator = reference::from_name(self.name.as_bytes()).expect("a name that the card's reader takes") as i64;
         let [gravity, right, down] = self.place;
         let [start, width, height, channels] = self.source;
         let count = self.args.len() as i64;
-        [operator, gravity, right, down, self.flags, start, width, height, channels, count]
+        [operator, gravity, right, down, self.flags, start, width, height, channels, count, 0, 0, 2048, 2048]
     }
 }
 

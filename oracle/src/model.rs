@@ -1,8 +1,9 @@
 //! Document 01 above the compiled Rust: the table of faults, single compositions, narrowing, and the job
-//! with its phases, work pictures, mark, allowance and answer. Every pixel comes from `reference`.
+//! with its phases, work pictures, mark, allowance and answer. Every pixel comes from `reference`, where a layer has a
+//! window by way of `window`.
 
-use crate::request::{ARGUMENTS, Answer, COLUMNS, CardAnswer, Job, LAYERS, Layer, Memory, Picture, Side};
-use crate::{card, reference};
+use crate::request::{ARGUMENTS, Answer, COLUMNS, CardAnswer, Job, LAYERS, Layer, Memory, Picture, Side, WINDOW};
+use crate::{card, reference, window};
 
 const SIDE: i64 = 2048;
 const OFFSET: i64 = 1_000_000;
@@ -20,10 +21,10 @@ fn size(width: i64, height: i64, channels: i64) -> Option<i128> {
     good.then(|| width as i128 * height as i128 * channels as i128)
 }
 
-/// Faults 3 to 8 of one row of the table.
+/// Faults 3 to 8 and 13 of one row of the table.
 fn row_fault(row: &[i64], samples: usize) -> Option<u64> {
-    let &[operator, gravity, right, down, flags, start, width, height, channels, count] = row else {
-        unreachable!("a row has ten numbers")
+    let &[operator, gravity, right, down, flags, start, width, height, channels, count, ref window @ ..] = row else {
+        unreachable!("a row has fourteen numbers")
     };
     let placed = |offset: i64| (-OFFSET..=OFFSET).contains(&offset);
     let source = || {
@@ -48,10 +49,13 @@ fn row_fault(row: &[i64], samples: usize) -> Option<u64> {
     if !(0..=ARGUMENTS as i64).contains(&count) {
         return Some(8);
     }
+    if !window.iter().all(|n| (0..=SIDE).contains(n)) {
+        return Some(13);
+    }
     None
 }
 
-/// Faults 1 to 8 of a job's inputs, in document 01's order.
+/// Faults 1 to 8 and 13 of a job's inputs, in the documents' order.
 pub fn inputs_fault(job: &Job) -> Option<Fault> {
     let layers = job.layers;
     if !(1..=LAYERS as i64).contains(&layers)
@@ -96,6 +100,7 @@ pub fn layer(job: &Job, k: usize) -> Layer {
             words: job.samples[start..start + size].to_vec(),
         },
         args: job.args[k * ARGUMENTS..][..count].to_vec(),
+        window: row[WINDOW..].try_into().expect("a window has four numbers"),
     }
 }
 
@@ -119,7 +124,7 @@ fn phase(job: &Job, k: u64, work: &[Vec<u32>; 2]) -> Vec<u32> {
                 channels: 4,
                 words: work[(k as usize - 1) % 2].clone(),
             };
-            reference::compose(&beneath, &layer(job, k as usize - 1))
+            window::compose(&beneath, &layer(job, k as usize - 1))
         }
     }
 }
@@ -156,7 +161,7 @@ fn narrowed(wanted: i64, input: usize) -> Option<usize> {
     ([1, 3, 4].contains(&wanted) && input.is_multiple_of(4)).then_some(input / 4 * wanted as usize)
 }
 
-/// The reference: the compiled Rust with document 01 around it, and document 02's card.
+/// The reference: the compiled Rust with document 01 around it, and document 02's windows and card.
 pub struct Reference;
 
 impl Side for Reference {
@@ -172,7 +177,7 @@ impl Side for Reference {
         if out.len() as i64 != 4 * job.width * job.height {
             return 9;
         }
-        out.copy_from_slice(&reference::compose(&destination(&job), &layer(&job, 0)));
+        out.copy_from_slice(&window::compose(&destination(&job), &layer(&job, 0)));
         0
     }
 

@@ -2,7 +2,7 @@
 
 use crate::lines::Request;
 use crate::reference;
-use crate::request::{ARGUMENTS, COLUMNS, Job, Memory};
+use crate::request::{ARGUMENTS, COLUMNS, Job, Memory, WHOLE, WINDOW, Window};
 
 /// Words worth trying: zeros, ones and halves, what lies beside them, subnormals, infinities, NaN patterns.
 pub const SPECIAL: [u32; 32] = [
@@ -39,6 +39,29 @@ pub const SPECIAL: [u32; 32] = [
     0x3586_37bd, // 1e-6
     0x3d4c_cccd, // 0.05
 ];
+
+/// Window numbers past their limits and at them.
+const WINDOW_NUMBERS: [i64; 16] = [
+    -1,
+    -2,
+    -2048,
+    -(1 << 32),
+    5 - (1 << 32),
+    i64::MIN,
+    i64::MIN + 2048,
+    2049,
+    2050,
+    4096,
+    1 << 32,
+    (1 << 32) + 5,
+    (1 << 32) + 2048,
+    i64::MAX,
+    0,
+    2048,
+];
+
+/// How many numbers a layer may wrongly have.
+const OTHER_COLUMNS: [usize; 8] = [10, 10, 11, 12, 13, 15, 16, 18];
 
 /// The carried operators.
 pub fn carried() -> impl Iterator<Item = i64> {
@@ -159,6 +182,35 @@ impl Random {
         }
     }
 
+    /// Where a window starts along a side of the tray, and how long it is.
+    fn span(&mut self, side: i64) -> (i64, i64) {
+        let within = side.max(1) as u64;
+        let start = self.below(within) as i64;
+        match self.below(8) {
+            0 => (0, 2048),
+            1 => (0, start),
+            2 => (start, 2048),
+            3 => (start, 1),
+            4 => (self.below(2049) as i64, self.below(2049) as i64),
+            5 => ((side + self.below(2) as i64).min(2048), 1 + self.below(4) as i64),
+            // Within the tray, to its end, or a pixel past it.
+            _ => (start, (1 + self.below((side - start + 1).max(1) as u64) as i64).min(2048)),
+        }
+    }
+
+    /// A window: about half hold the whole tray, one in ten holds nothing, one in ten a pixel.
+    fn window(&mut self, (width, height): (i64, i64)) -> Window {
+        let ((left, columns), (top, rows)) = (self.span(width), self.span(height));
+        match self.below(20) {
+            0..8 => WHOLE,
+            8 => [0, 0, width, height],
+            9 => [left, top, 0, rows],
+            10 => [left, top, columns, 0],
+            11 | 12 => [self.below(width.max(1) as u64) as i64, self.below(height.max(1) as u64) as i64, 1, 1],
+            _ => [left, top, columns, rows],
+        }
+    }
+
     /// A row and its arguments for an operator, with a source in a store of samples that it may lengthen.
     fn layer(&mut self, operator: i64, most: Sides, job: &mut Job) {
         let channels = self.pick(&[1, 3, 4, 4]);
@@ -184,6 +236,8 @@ impl Random {
         let gravity = if self.one_in(2) { 0 } else { self.below(10) as i64 };
         let start = start as i64;
         job.table.extend([operator, gravity, right, down, flags, start, width, height, channels, count as i64]);
+        let window = self.window((job.width, job.height));
+        job.table.extend(window);
         for _ in 0..ARGUMENTS {
             let argument = self.argument(operator);
             job.args.push(argument);
@@ -262,7 +316,7 @@ impl Random {
 
     /// One thing of a job's inputs changed, to something that is perhaps a fault.
     pub fn spoil(&mut self, job: &mut Job) {
-        match self.below(10) {
+        match self.below(13) {
             0 => job.layers = self.edge(),
             1 => job.width = self.edge(),
             2 => job.height = self.edge(),
@@ -271,13 +325,32 @@ impl Random {
             5 => self.resize(&mut job.args, 0),
             6 => self.resize(&mut job.dst, 0),
             _ if job.table.is_empty() => job.layers = 0,
-            _ => {
-                let layer = self.below((job.table.len().div_ceil(COLUMNS)) as u64) as usize;
-                let column = layer * COLUMNS + self.below(COLUMNS as u64) as usize;
-                if column < job.table.len() {
-                    job.table[column] = self.edge();
+            7 => {
+                let columns = self.pick(&OTHER_COLUMNS);
+                let rows = job.table.chunks(COLUMNS);
+                job.table = rows.flat_map(|row| row.iter().copied().cycle().take(columns)).collect();
+            }
+            8 | 9 => {
+                let (column, number) = (WINDOW as u64 + self.below(4), self.pick(&WINDOW_NUMBERS));
+                self.spoil_row(job, column, number);
+                // Beside it another fault, before or after it in the order.
+                if self.one_in(2) {
+                    let (column, number) = (self.below(COLUMNS as u64), self.edge());
+                    self.spoil_row(job, column, number);
                 }
             }
+            _ => {
+                let (column, number) = (self.below(COLUMNS as u64), self.edge());
+                self.spoil_row(job, column, number);
+            }
+        }
+    }
+
+    /// A number in the place of one of a layer's.
+    fn spoil_row(&mut self, job: &mut Job, column: u64, number: i64) {
+        let layer = self.below((job.table.len().div_ceil(COLUMNS)) as u64) as usize;
+        if let Some(place) = job.table.get_mut(layer * COLUMNS + column as usize) {
+            *place = number;
         }
     }
 

@@ -94,7 +94,7 @@ const BYTES: &[u8] = b"\0\x09\x0a\x0b\x0d \"'()*+,-./0123456789:;@AFGOZ[\\]^_`ab
 const EDITIONS: [&str; 10] = ["0", "2", "01", "1 1", "-1", "+1", "10", "1.0", "", "9999999999"];
 
 /// Lengths of the table and of the arguments, the right ones among them.
-const TABLES: [usize; 12] = [0, 1, 9, 10, 64, 150, 159, 160, 160, 161, 170, 320];
+const TABLES: [usize; 13] = [0, 1, 13, 14, 64, 160, 210, 223, 224, 224, 225, 238, 320];
 const ARGS: [usize; 11] = [0, 1, 4, 60, 63, 64, 64, 65, 68, 80, 128];
 
 fn is_word(byte: u8) -> bool {

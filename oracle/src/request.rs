@@ -1,10 +1,17 @@
 //! What is asked and answered, in plain numbers: pictures, samples and arguments are words (the bits of an
 //! f32), and every list may have any length. `Side` is one party of a comparison.
 
-/// Document 01: ten numbers a layer in the sheet, four arguments a layer, and the most layers.
-pub const COLUMNS: usize = 10;
+/// Documents 01 and 02: fourteen numbers a layer in the sheet, four arguments a layer, and the most layers.
+pub const COLUMNS: usize = 14;
 pub const ARGUMENTS: usize = 4;
 pub const LAYERS: usize = 16;
+
+/// A layer's window in tray pixels (document 02, A.3): left, top, width and height, the last four numbers of its row.
+pub type Window = [i64; 4];
+/// The column in which a window begins.
+pub const WINDOW: usize = 10;
+/// The window that holds every pixel of every tray.
+pub const WHOLE: Window = [0, 0, 2048, 2048];
 
 /// The flags' bits. The channels' are in the order of the samples.
 pub const TILE: u32 = 1;
@@ -32,6 +39,7 @@ pub struct Layer {
     pub flags: u32,
     pub source: Picture,
     pub args: Vec<u32>,
+    pub window: Window,
 }
 
 /// The inputs of a job (document 01: tray, count of layers, sheet, arguments, store of source samples). A

@@ -1,7 +1,7 @@
 //! The smallest request that still fails: one simplification after the other, as long as the failure stays.
 
 use crate::lines::Request;
-use crate::request::{ARGUMENTS, COLUMNS, Job, LAYERS, Memory};
+use crate::request::{ARGUMENTS, COLUMNS, Job, LAYERS, Memory, WHOLE, WINDOW};
 
 const ONE: u32 = 0x3f80_0000;
 
@@ -41,6 +41,29 @@ fn crops(job: &Job, memory: Option<&Memory>) -> Vec<(Job, Memory)> {
     out
 }
 
+/// Jobs with simpler numbers in their rows. The simplest window holds every tray, and stays.
+fn simpler_rows(job: &Job) -> Vec<Job> {
+    let mut out = Vec::new();
+    for (k, row) in job.table.chunks_exact(COLUMNS).enumerate() {
+        let whole = row[WINDOW..] == WHOLE;
+        if !whole {
+            let mut small = job.clone();
+            small.table[k * COLUMNS + WINDOW..][..4].copy_from_slice(&WHOLE);
+            out.push(small);
+        }
+        for (i, n) in row.iter().enumerate().filter(|(i, _)| *i != 0 && (*i < WINDOW || !whole)) {
+            for simple in [0, 1, n / 2, n - n.signum()] {
+                if simple.unsigned_abs() < n.unsigned_abs() {
+                    let mut small = job.clone();
+                    small.table[k * COLUMNS + i] = simple;
+                    out.push(small);
+                }
+            }
+        }
+    }
+    out
+}
+
 /// Jobs with a layer less, or with simpler numbers in their lists.
 fn simpler(job: &Job) -> Vec<Job> {
     let mut out = Vec::new();
@@ -59,15 +82,7 @@ fn simpler(job: &Job) -> Vec<Job> {
         small.samples.pop();
         out.push(small);
     }
-    for (i, n) in job.table.iter().enumerate().filter(|(i, _)| i % COLUMNS != 0) {
-        for simple in [0, 1, n / 2, n - n.signum()] {
-            if simple.unsigned_abs() < n.unsigned_abs() {
-                let mut small = job.clone();
-                small.table[i] = simple;
-                out.push(small);
-            }
-        }
-    }
+    out.extend(simpler_rows(job));
     type List = fn(&mut Job) -> &mut Vec<u32>;
     let lists: [List; 3] = [|j| &mut j.dst, |j| &mut j.args, |j| &mut j.samples];
     for list in lists {

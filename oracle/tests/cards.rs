@@ -1,4 +1,4 @@
-//! Document 02, A.2: the card, asked of its model and of the restatement.
+//! Document 02, A.2: the card, with A.3's windows, asked of its model and of the restatement.
 
 use oracle::card::{Card, CardLayer, MOST, read};
 use oracle::lines::{Outcome, Request, ask};
@@ -15,7 +15,7 @@ const CARD: &str = "(tray 1 2 1 3)\n(layer over (place 0 3 -2) (flags 62) (sourc
 
 /// A text's answer and the two lists, which hold 7 and 9 before.
 fn answered(side: &dyn Side, text: &str) -> (CardAnswer, Vec<i64>, Vec<u32>) {
-    let (mut table, mut args) = (vec![7; 160], vec![9; 64]);
+    let (mut table, mut args) = (vec![7; 224], vec![9; 64]);
     let answer = side.read_card(text.as_bytes(), &mut table, &mut args);
     (answer, table, args)
 }
@@ -25,9 +25,9 @@ fn own_card() {
     for side in SIDES {
         let (answer, table, args) = answered(side, CARD);
         assert_eq!(answer, CardAnswer { number: 0, line: 0, width: 2, height: 1, channels: 3, layers: 1 });
-        assert_eq!(table[..10], [0, 0, 3, -2, 62, 0, 2, 1, 3, 1]);
+        assert_eq!(table[..14], [0, 0, 3, -2, 62, 0, 2, 1, 3, 1, 0, 0, 2048, 2048]);
         assert_eq!(args[..4], [0x3f00_0000, 0, 0, 0]);
-        assert!(table[10..].iter().all(|n| *n == 0) && args[4..].iter().all(|n| *n == 0));
+        assert!(table[14..].iter().all(|n| *n == 0) && args[4..].iter().all(|n| *n == 0));
     }
 }
 
@@ -51,12 +51,13 @@ fn refusals() {
     ];
     for side in SIDES {
         for (text, line) in texts {
-            let refused = (CardAnswer::refused(line), vec![7; 160], vec![9; 64]);
+            let refused = (CardAnswer::refused(line), vec![7; 224], vec![9; 64]);
             assert_eq!(answered(side, text), refused, "{text}");
         }
         assert_eq!(answered(side, &layers(16)).0.layers, 16);
-        assert_eq!(side.read_card(b"", &mut [7; 159], &mut [9; 64]), CardAnswer::refused(0));
-        assert_eq!(side.read_card(CARD.as_bytes(), &mut [7; 160], &mut [9; 65]), CardAnswer::refused(0));
+        assert_eq!(side.read_card(CARD.as_bytes(), &mut [7; 160], &mut [9; 64]), CardAnswer::refused(0));
+        assert_eq!(side.read_card(b"", &mut [7; 223], &mut [9; 64]), CardAnswer::refused(0));
+        assert_eq!(side.read_card(CARD.as_bytes(), &mut [7; 224], &mut [9; 65]), CardAnswer::refused(0));
     }
 }
 

@@ -2,11 +2,16 @@
 
 use oracle::lines::{Outcome, Request, ask};
 use oracle::model::Reference;
-use oracle::request::{Job, Memory, Side, words};
+use oracle::request::{Job, Memory, Side, WHOLE, words};
 use oracle::restated::{Reading, Restated};
 
 const RESTATED: Restated = Restated { reading: Reading::RIGHT };
 const SIDES: [&dyn Side; 2] = [&Reference, &RESTATED];
+
+/// A row with the window that holds every tray.
+fn row(numbers: [i64; 10]) -> Vec<i64> {
+    [&numbers[..], &WHOLE].concat()
+}
 
 fn one(operator: i64, s: [f32; 4], d: [f32; 4]) -> Job {
     Job {
@@ -15,7 +20,7 @@ fn one(operator: i64, s: [f32; 4], d: [f32; 4]) -> Job {
         channels: 4,
         dst: words(&d),
         layers: 1,
-        table: vec![operator, 0, 0, 0, 62, 0, 1, 1, 4, 0],
+        table: row([operator, 0, 0, 0, 62, 0, 1, 1, 4, 0]),
         args: vec![0; 4],
         samples: words(&s),
     }
@@ -63,7 +68,7 @@ fn places() {
             channels: 1,
             dst: vec![0; tray as usize],
             layers: 1,
-            table: vec![17, gravity, right, 0, flags, 0, source, 1, 1, 0],
+            table: row([17, gravity, right, 0, flags, 0, source, 1, 1, 0]),
             args: vec![0; 4],
             samples: (1..=source as u32).collect(),
         };

@@ -35,6 +35,14 @@ static void fill(uint32_t *words, size_t length, uint64_t *seed) {
     }
 }
 
+// Some of a destination's words are NaNs with bits of their own, which a pixel that is kept must keep.
+static void nans(uint32_t *words, size_t length, uint64_t *seed) {
+    for (size_t i = random_next(seed) % 32; i < length; i += 1 + random_next(seed) % 64) {
+        uint32_t sign = random_next(seed) % 2;
+        words[i] = sign << 31 | (0x7f800001 + random_next(seed) % 0x7fffff);
+    }
+}
+
 int operator_next(int operator) {
     operator = (operator + 1) % OPERATORS;
     return operator == INTERPOLATE || operator == BLUR ? operator_next(operator) : operator;
@@ -48,17 +56,105 @@ static void widen(const Job *job, uint32_t *out) {
         }
 }
 
-static void compose(const Job *job, int k) {
+int in_window(const int64_t *row, int64_t x, int64_t y) {
+    int64_t left = row[TRAY_COLUMN_WINDOW_LEFT], top = row[TRAY_COLUMN_WINDOW_TOP];
+    return left <= x && x < left + row[TRAY_COLUMN_WINDOW_WIDTH] && top <= y && y < top + row[TRAY_COLUMN_WINDOW_HEIGHT];
+}
+
+int off_window(const Job *job, uint64_t mark) {
+    uint64_t k = mark / job->pixels, j = mark % job->pixels;
+    return 0 < k && k <= (uint64_t)job->layers && !in_window(job->table + TRAY_COLUMNS * (k - 1), j % job->width, j / job->width);
+}
+
+typedef struct {
+    int64_t left, top, width, height;
+} Window;
+
+// The window of a letter.
+static Window window_of(const Job *job, char letter, uint64_t *seed) {
+    static const char letters[] = "ftrp1swhbu";
+    const int64_t w = job->width, h = job->height, most = TRAY_MAX_SIDE;
+    const int64_t x = random_next(seed) % w, y = random_next(seed) % h;
+    switch (letter) {
+    case 'f': return (Window){0, 0, most, most};
+    case 't': return (Window){0, 0, w, h};
+    case 'r': return (Window){1, 1, w - 2, h - 2};
+    case 'p': return (Window){1 + x % (w - 1), y, most, most};
+    case '1': return (Window){x, y, 1, 1};
+    case 's': return (Window){x / 2, y / 2, w / 2 + random_next(seed) % w, h / 2 + random_next(seed) % h};
+    case 'w': return (Window){x, y, 0, most};
+    case 'h': return (Window){x, y, most, 0};
+    case 'b': return (Window){w, 0, most, most};
+    case 'u': return (Window){0, h, most, most};
+    case 'a': return window_of(job, letters[random_next(seed) % (sizeof letters - 1)], seed);
+    }
+    abort();
+}
+
+// The row of layer k: every third layer is smaller than the destination, every fourth tiled, every fifth runs off its
+// source too.
+static void fill_row(Job *job, int k, int operator, char letter, uint64_t *seed) {
+    int64_t small = k % 3 == 2, flags = 60 | (k % 4 == 3) | (k % 5 == 4) << 1;
+    if (k % 7 == 6) flags &= ~(int64_t)TRAY_GREEN;
+    int64_t width = small ? job->width / 2 : job->width, height = small ? job->height / 2 : job->height;
+    Window window = window_of(job, letter, seed);
+    int64_t row[TRAY_COLUMNS] = {
+        operator, random_next(seed) % 10, (int64_t)(random_next(seed) % 5) - 2, (int64_t)(random_next(seed) % 5) - 2,
+        flags, 0, width, height, (int64_t[]){4, 3, 1}[k % 3], k % 5,
+        window.left, window.top, window.width, window.height};
+    memcpy(job->table + TRAY_COLUMNS * k, row, sizeof row);
+}
+
+// What work buffer k mod 2 holds before phase k.
+static const uint32_t *older(const Job *job, uint64_t k) {
+    return k < 2 ? job->before + 4 * job->pixels * k : job->picture[k - 2];
+}
+
+static void single(const Job *job, int k, const int64_t *row, uint32_t *out) {
     uint64_t number = tray_compose(
-        job->width, job->height, 4, job->picture[k], 4 * job->pixels, job->table + 10 * k, 10, job->args + 4 * k, 4,
-        job->samples, job->samples_length, job->picture[k + 1], 4 * job->pixels);
+        job->width, job->height, 4, job->picture[k], 4 * job->pixels, row, TRAY_COLUMNS, job->args + 4 * k, 4, job->samples,
+        job->samples_length, out, 4 * job->pixels);
     if (number) {
         printf("layer %d is refused as %llu\n", k, (unsigned long long)number);
         exit(2);
     }
 }
 
-Job job_new(int64_t width, int64_t height, int64_t channels, int64_t layers, int first, uint64_t seed) {
+// The pixels off the window of layer k become those of the picture beneath.
+static void put_back(Job *job, int k) {
+    const int64_t *row = job->table + TRAY_COLUMNS * k, flags = row[TRAY_COLUMN_FLAGS], operator = row[TRAY_COLUMN_OPERATOR];
+    const uint32_t *beneath = job->picture[k], *held = older(job, k + 1);
+    uint32_t *picture = job->picture[k + 1];
+    for (uint64_t j = 0; j < job->pixels; j++) {
+        if (!off_window(job, job->pixels * (k + 1) + j)) continue;
+        int cut = memcmp(picture + 4 * j, beneath + 4 * j, 16) != 0;
+        job->off[CUT] += cut;
+        job->off[CUT_TILED] += cut && flags & TRAY_TILE;
+        job->off[CUT_OVERLAID] += cut && flags & TRAY_OVERLAY;
+        job->off[CUT_MAPPED] += cut && (operator == TRAY_OP_DISPLACE || operator == TRAY_OP_DISTORT);
+        job->off[SHOWN] += memcmp(held + 4 * j, beneath + 4 * j, 16) != 0;
+        memcpy(picture + 4 * j, beneath + 4 * j, 16);
+    }
+}
+
+// The picture of layer k. The library's single composition must have the same of the layer's own window.
+static void compose(Job *job, int k) {
+    const int64_t *row = job->table + TRAY_COLUMNS * k;
+    int64_t full[TRAY_COLUMNS];
+    memcpy(full, row, sizeof full);
+    memcpy(full + TRAY_COLUMN_WINDOW_LEFT, (int64_t[]){0, 0, TRAY_MAX_SIDE, TRAY_MAX_SIDE}, 4 * sizeof *full);
+    single(job, k, full, job->picture[k + 1]);
+    put_back(job, k);
+    uint32_t *own = room(16 * job->pixels);
+    single(job, k, row, own);
+    if (memcmp(own, job->picture[k + 1], 16 * job->pixels)) {
+        printf("layer %d: the single composition has another picture of its window\n", k);
+        exit(2);
+    }
+    free(own);
+}
+
+Job job_new(int64_t width, int64_t height, int64_t channels, int64_t layers, int first, const char *windows, uint64_t seed) {
     Job job = {.width = width, .height = height, .channels = channels, .layers = layers};
     job.pixels = width * height;
     job.dst_length = job.pixels * channels;
@@ -69,24 +165,24 @@ Job job_new(int64_t width, int64_t height, int64_t channels, int64_t layers, int
     job.samples = room(4 * job.samples_length);
     job.before = room(32 * job.pixels);
     fill(job.dst, job.dst_length, &seed);
+    nans(job.dst, job.dst_length, &seed);
     fill(job.samples, job.samples_length, &seed);
     fill(job.args, 4 * layers, &seed);
     memset(job.before, 0xee, 32 * job.pixels);
     int operator = first;
     for (int k = 0; k < layers; k++) {
-        // Every third layer is smaller than the destination, every fourth tiled, every fifth runs off its source too.
-        int64_t small = k % 3 == 2, flags = 60 | (k % 4 == 3) | (k % 5 == 4) << 1;
-        if (k % 7 == 6) flags &= ~(int64_t)TRAY_GREEN;
-        int64_t row[10] = {
-            operator, random_next(&seed) % 10, (int64_t)(random_next(&seed) % 5) - 2, (int64_t)(random_next(&seed) % 5) - 2,
-            flags, 0, small ? width / 2 : width, small ? height / 2 : height, (int64_t[]){4, 3, 1}[k % 3], k % 5};
-        memcpy(job.table + 10 * k, row, sizeof row);
+        fill_row(&job, k, operator, windows[k % strlen(windows)], &seed);
         operator = operator_next(operator);
     }
     for (int k = 0; k <= layers; k++) job.picture[k] = room(16 * job.pixels);
     widen(&job, job.picture[0]);
     for (int k = 0; k < layers; k++) compose(&job, k);
     return job;
+}
+
+void job_free(Job *job) {
+    for (int k = 0; k <= job->layers; k++) free(job->picture[k]);
+    free(job->dst), free(job->samples), free(job->before);
 }
 
 size_t memory_bytes(const Job *job) { return 64 + 32 * job->pixels; }
@@ -105,9 +201,10 @@ Answer job_call(const Job *job, Memory memory, uint64_t allowance) {
     Answer answer;
     memset(&answer, 0xee, sizeof answer);  // an answer that is not written shows
     answer.number = TESTED(
-        job->width, job->height, job->channels, job->dst, job->dst_length, job->layers, job->table, 10 * job->layers,
-        job->args, 4 * job->layers, job->samples, job->samples_length, allowance, memory.work[0], job->work_length[0],
-        memory.work[1], job->work_length[1], memory.mark, job->mark_length, &answer.layer, &answer.stores, &answer.finished);
+        job->width, job->height, job->channels, job->dst, job->dst_length, job->layers, job->table,
+        TRAY_COLUMNS * job->layers, job->args, 4 * job->layers, job->samples, job->samples_length, allowance,
+        memory.work[0], job->work_length[0], memory.work[1], job->work_length[1], memory.mark, job->mark_length,
+        &answer.layer, &answer.stores, &answer.finished);
     return answer;
 }
 
@@ -122,11 +219,6 @@ void memory_store(const Job *job, Memory memory, uint64_t entry) {
 void memory_after(const Job *job, Memory memory, uint64_t made) {
     memory_begin(job, memory);
     for (uint64_t entry = 0; entry < made; entry++) memory_store(job, memory, entry);
-}
-
-// What work buffer k mod 2 holds before phase k.
-static const uint32_t *older(const Job *job, uint64_t k) {
-    return k < 2 ? job->before + 4 * job->pixels * k : job->picture[k - 2];
 }
 
 // The mark says how many pixels are whole. Of the next one some first channels may be stored; all else must be as the

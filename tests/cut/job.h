@@ -1,5 +1,6 @@
 // Jobs for the tests of the cut, and what their memory must look like. The pictures come from the single composition,
-// layer by layer, and not from the job call that is tested.
+// layer by layer, and not from the job call that is tested; of a layer with a window they come from the same layer under
+// a full one, with the pixels off the window put back, so that they rest on no window of the library.
 #ifndef JOB_H
 #define JOB_H
 
@@ -7,15 +8,20 @@
 
 enum { LAYERS = 16 };
 
+// Pixels off a layer's window: those that the layer would have changed, and of them those of layers with tile, with
+// overlay, and of maps; and those that their work buffer does not hold from before, so that their stores show.
+enum { CUT, CUT_TILED, CUT_OVERLAID, CUT_MAPPED, SHOWN, COUNTS };
+
 typedef struct {
     int64_t width, height, channels, layers;
     uint64_t pixels;
     uint32_t *dst, *samples, args[4 * LAYERS];
     size_t dst_length, samples_length;
-    int64_t table[10 * LAYERS];
+    int64_t table[TRAY_COLUMNS * LAYERS];
     size_t work_length[2], mark_length;  // what a call is told of the lists that it writes
     uint32_t *before;                    // what the two work buffers hold at first, one after the other
     uint32_t *picture[LAYERS + 1];       // the widened destination, then the result of each layer
+    uint64_t off[COUNTS];
 } Job;
 
 // What a job's calls write. The two work buffers stand one after the other, the mark before them.
@@ -35,8 +41,20 @@ typedef struct {
 } State;
 
 // A job of random samples with `layers` operators from number `first` on, those that are refused left out; sides of the
-// sources, places, flags and arguments vary.
-Job job_new(int64_t width, int64_t height, int64_t channels, int64_t layers, int first, uint64_t seed);
+// sources, places, flags and arguments vary. Its sides are 2 at least. `windows` has a letter for each layer, and begins
+// again after the last:
+//
+//    f  full, as large as can be      r  all but the rims               w  of no width
+//    t  the tray and no more          p  from a pixel to past the tray  h  of no height
+//    1  one pixel                     s  some pixels, past it or not    b  beside the tray
+//    a  any of the others                                               u  below the tray
+Job job_new(int64_t width, int64_t height, int64_t channels, int64_t layers, int first, const char *windows, uint64_t seed);
+void job_free(Job *job);
+
+// Whether the pixel (x, y) lies in the window of a layer's row.
+int in_window(const int64_t *row, int64_t x, int64_t y);
+// Whether the pixel that is next at a mark lies off its layer's window. Phase 0 has none.
+int off_window(const Job *job, uint64_t mark);
 
 // The operators carried, and the one after `operator` among them.
 int operator_next(int operator);

@@ -1,6 +1,7 @@
-// kill COUNT [SEED]: processes that run a job on a mapped file are killed (SIGKILL) at random moments, COUNT of them while
-// their call is under way. After each, memory must be a prefix of the store list; the next process takes the job up; the
-// picture at the end must be that of an uninterrupted run. Ends with status 1 where it is not.
+// kill COUNT [SEED]: processes that run a job on a mapped file, its layers with windows of any kind, are killed (SIGKILL) at
+// random moments, COUNT of them while their call is under way. After each, memory must be a prefix of the store list; the
+// next process takes the job up; the picture at the end must be that of an uninterrupted run. Ends with status 1 where it
+// is not.
 #define _GNU_SOURCE
 #include "job.h"
 
@@ -53,9 +54,9 @@ int main(int argc, char **argv) {
     if (file < 0) return 2;
     unlink(path);
     Life *life = mmap(0, sizeof *life, PROT_READ | PROT_WRITE, MAP_SHARED | MAP_ANONYMOUS, -1, 0);
-    uint64_t kills = 0, jobs = 0, inside = 0, without = 0;
+    uint64_t kills = 0, jobs = 0, inside = 0, without = 0, off = 0, cut = 0;
     while (kills < wanted) {
-        Job job = job_new(200, 160, (int64_t[]){4, 3, 1}[jobs % 3], 8, operator_next(jobs * 8 % 70), seed + jobs);
+        Job job = job_new(200, 160, (int64_t[]){4, 3, 1}[jobs % 3], 8, operator_next(jobs * 8 % 70), "a", seed + jobs);
         size_t bytes = memory_bytes(&job);
         if (ftruncate(file, bytes)) return 2;
         Memory memory = memory_at(&job, mmap(0, bytes, PROT_READ | PROT_WRITE, MAP_SHARED, file, 0));
@@ -78,6 +79,7 @@ int main(int argc, char **argv) {
                 killed += hit;
                 inside += hit && state.stores % 5 != 0;
                 without += hit && state.stores / 5 == last / 5;
+                off += hit && off_window(&job, state.stores / 5);
                 last = state.stores;
             }
             if (!finished_right(&job, memory)) {
@@ -87,11 +89,15 @@ int main(int argc, char **argv) {
             kills += killed;
         }
         munmap(memory.mark, bytes);
-        for (int k = 0; k <= job.layers; k++) free(job.picture[k]);
-        free(job.dst), free(job.samples), free(job.before);
+        cut += job.off[CUT];
+        job_free(&job);
     }
-    printf("%llu workers killed in their calls (%llu inside a pixel, %llu before they gained one) over %llu jobs: memory a prefix of "
-           "the store list after each, every job taken up and finished with the right picture\n",
-        (unsigned long long)kills, (unsigned long long)inside, (unsigned long long)without, (unsigned long long)jobs);
+    if (!cut) {
+        printf("no window kept a pixel that its layer would have changed\n");
+        return 1;
+    }
+    printf("%llu workers killed in their calls (%llu inside a pixel, %llu before they gained one, %llu at a pixel off a window) over "
+           "%llu jobs: memory a prefix of the store list after each, every job taken up and finished with the right picture\n",
+        (unsigned long long)kills, (unsigned long long)inside, (unsigned long long)without, (unsigned long long)off, (unsigned long long)jobs);
     return 0;
 }

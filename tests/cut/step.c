@@ -1,9 +1,10 @@
 // step: single-steps (ptrace) job calls and looks at their memory after every instruction, which is every place where a
 // worker can be stopped. Memory must be what some number of stores leaves, never fewer than before.
 //
-// All 68 operators in jobs of up to 16 layers, on destinations of one, three and four channels, each job in one call; a
-// larger picture; a job in many short calls, which end inside pixels; refused calls for each fault from 1 to 10, which
-// must not write at all.
+// All 68 operators in jobs of 16 layers, on destinations of one, three and four channels, each job in one call; a larger
+// picture; a job in many short calls, which end inside pixels; refused calls for each fault from 1 to 10 and for 13, which
+// must not write at all. Of the jobs one has full windows alone, the others windows of every kind: a pixel off its window
+// is five stores as any other, and its words are those beneath.
 // Ends with status 1 when a memory is no prefix of the store list, 77 where the system does not let a process be traced.
 #define _GNU_SOURCE
 #include "job.h"
@@ -20,7 +21,7 @@
 
 enum { CANNOT = 77 };
 
-static uint64_t steps, seen, listed;
+static uint64_t steps, seen, listed, off[COUNTS];
 
 static void *shared(size_t bytes) {
     void *start = mmap(0, bytes, PROT_READ | PROT_WRITE, MAP_SHARED | MAP_ANONYMOUS, -1, 0);
@@ -104,6 +105,7 @@ static void step_job(const Job *job, uint64_t allowance) {
     }
     check(finished_right(job, memory), "the finished picture is another one");
     listed += 5 * end;
+    for (int i = 0; i < COUNTS; i++) off[i] += job->off[i];
 }
 
 // A call at a mark that must be refused under `number` and may write nothing, whatever instruction it is stopped at.
@@ -119,20 +121,34 @@ static void step_refused(Job job, uint64_t mark, uint64_t number, uint64_t layer
     check(answer->stores == 0 && answer->finished == 0, "a refused call answers stores, or finished");
 }
 
+// Numbers of a row that are refused, in layers 0, 1, 2 in turn, on the way through a job.
+static void refused_rows(Job job) {
+    const struct { int column; int64_t value; uint64_t number; } rows[] = {
+        {TRAY_COLUMN_OPERATOR, TRAY_OPERATORS, TRAY_OPERATOR}, {TRAY_COLUMN_OPERATOR, TRAY_OP_INTERPOLATE, TRAY_CURVE},
+        {TRAY_COLUMN_GRAVITY, 10, TRAY_PLACING}, {TRAY_COLUMN_FLAGS, 64, TRAY_FLAGS},
+        {TRAY_COLUMN_FIRST, INT64_MAX, TRAY_SOURCE}, {TRAY_COLUMN_COUNT, 5, TRAY_ARGUMENTS},
+        {TRAY_COLUMN_WINDOW_LEFT, -1, TRAY_WINDOW}, {TRAY_COLUMN_WINDOW_TOP, TRAY_MAX_SIDE + 1, TRAY_WINDOW},
+        {TRAY_COLUMN_WINDOW_WIDTH, INT64_MIN, TRAY_WINDOW}, {TRAY_COLUMN_WINDOW_HEIGHT, INT64_MAX, TRAY_WINDOW}};
+    for (uint64_t i = 0; i < sizeof rows / sizeof *rows; i++) {
+        Job wrong = job;
+        wrong.table[TRAY_COLUMNS * (i % 3) + rows[i].column] = rows[i].value;
+        step_refused(wrong, 3 * i, rows[i].number, i % 3);
+    }
+}
+
 static void refusals(Job job) {
-    Job wrong[] = {job, job, job, job, job, job, job, job, job, job, job, job};
+    Job wrong[] = {job, job, job, job, job, job};
+    const uint64_t numbers[] = {TRAY_STACK, TRAY_TRAY, TRAY_WORK, TRAY_WORK, TRAY_MARK, TRAY_MARK};
     wrong[0].layers = 0;
     wrong[1].dst_length--;
-    const struct { int column; int64_t value; } row[] = {{0, 70}, {0, 43}, {1, 10}, {4, 64}, {5, INT64_MAX}, {9, 5}};
-    for (int i = 0; i < 6; i++) wrong[2 + i].table[10 * (i % 3) + row[i].column] = row[i].value;
-    for (int i = 0; i < 8; i++) step_refused(wrong[i], 0, i + 1, i < 2 ? 0 : (i - 2) % 3);
     // Memory: each work buffer a word short, lists of no and of two marks, a mark beyond the end.
-    wrong[8].work_length[0]--;
-    wrong[9].work_length[1]--;
-    wrong[10].mark_length = 0;
-    wrong[11].mark_length = 2;
-    for (int i = 8; i < 12; i++) step_refused(wrong[i], 0, i < 10 ? 9 : 10, 0);
-    step_refused(job, job_end(&job) + 1, 10, 0);
+    wrong[2].work_length[0]--;
+    wrong[3].work_length[1]--;
+    wrong[4].mark_length = 0;
+    wrong[5].mark_length = 2;
+    for (int i = 0; i < 6; i++) step_refused(wrong[i], 0, numbers[i], 0);
+    step_refused(job, job_end(&job) + 1, TRAY_MARK, 0);
+    refused_rows(job);
 }
 
 // Tracer and traced take turns: on one processor they do so faster.
@@ -143,21 +159,36 @@ static void one_processor(void) {
     sched_setaffinity(0, sizeof set, &set);
 }
 
+// The letters of the jobs' windows, one for each layer (job.h). Each operator has one that holds pixels; those that hold none
+// follow in the last job, after the last operator, and take turns with full ones: two in a row would store what is there
+// already. Layers 3, 7, 11 and 15 are tiled, 4, 9 and 14 have overlay; the maps are layers 0 and 1 of the last job.
+static const char *const windows[] = {"rfpsrtpsfrfptspr", "f", "spfrsftprsfrfprs", "ptspfrfspfrtsfsp", "rpstfwtbfhtuf1rs"};
+
+// All operators, once at least; answers how many layers changed a pixel.
+static int operators(int jobs) {
+    int operator = 0, changing = 0;
+    for (int i = 0; i < jobs; i++) {
+        Job job = job_new(5, 3, (int64_t[]){4, 3, 1}[i % 3], LAYERS, operator, windows[i], 3374 + i);
+        step_job(&job, UINT64_MAX);
+        for (int k = 0; k < LAYERS; k++, operator = operator_next(operator))
+            changing += memcmp(job.picture[k], job.picture[k + 1], 16 * job.pixels) != 0;
+    }
+    return changing;
+}
+
 int main(void) {
     one_processor();
-    int operator = 0, jobs = 0;
-    for (int left = 68; left > 0; left -= LAYERS, jobs++) {
-        int64_t layers = left < LAYERS ? left : LAYERS;
-        Job job = job_new(5, 3, (int64_t[]){4, 3, 1}[jobs % 3], layers, operator, 7 + jobs);
-        step_job(&job, UINT64_MAX);
-        for (int k = 0; k < layers; k++) operator = operator_next(operator);
-    }
-    Job large = job_new(23, 9, 4, 2, 0, 98), small = job_new(5, 2, 3, 4, 13, 99);
+    int jobs = sizeof windows / sizeof *windows, changing = operators(jobs);
+    Job large = job_new(23, 9, 4, 2, 0, "rf", 98), small = job_new(5, 2, 3, 4, 13, "spf1", 99);
     step_job(&large, UINT64_MAX);
     step_job(&small, 7);
     refusals(small);
+    check(changing > 60, "too few layers change a pixel");
+    for (int i = 0; i < COUNTS; i++) check(off[i] > 0, "windows cut nothing of some kind of layer, or no store off them shows");
     printf("%llu instructions stepped, 68 operators in %d jobs, a larger picture, short calls, refusals: memory is a prefix of the store list "
-           "after each; it moved %llu times over %llu stores\n",
-        (unsigned long long)steps, jobs, (unsigned long long)seen, (unsigned long long)listed);
+           "after each; it moved %llu times over %llu stores; windows kept %llu pixels that a layer would have changed, and the stores of %llu "
+           "pixels off them show\n",
+        (unsigned long long)steps, jobs, (unsigned long long)seen, (unsigned long long)listed, (unsigned long long)off[CUT],
+        (unsigned long long)off[SHOWN]);
     return 0;
 }

@@ -1,7 +1,8 @@
-// Workers that break the order of stores, each found out by the tests of the cut and by nothing that only looks at a
-// call's end. WRONG 1 raises the mark before alpha, 2 stores two pixels before their marks, 3 writes a word and puts it
-// right afterwards.
-#include "../../include/tray.h"
+// Workers that break the order of stores, each found out by the tests of the cut, and all but the fourth by nothing that
+// only looks at a call's end. WRONG 1 raises the mark before alpha, 2 stores two pixels before their marks, 3 writes a word
+// and puts it right afterwards. Two are wrong off a layer's window alone: 4 raises the mark there and stores nothing, as if
+// the work buffer held the picture beneath, and 5 stores the next pixel before it raises the mark, as a copied run would.
+#include "job.h"
 
 #include <string.h>
 
@@ -24,12 +25,13 @@ uint64_t wrong_job(
             samples_length, 5 * two, copy[0], work0_length, copy[1], work1_length, &own, mark_length, layer, stores,
             finished);
         for (uint64_t i = *at; i < own; i++) {
-            uint64_t k = i / n % 2, place = 4 * (i % n);
-            for (int c = 0; c < 3; c++) work[k][place + c] = copy[k][place + c];
+            uint64_t phase = i / n, k = phase % 2, j = i % n, place = 4 * j;
+            int off = phase > 0 && !in_window(table + TRAY_COLUMNS * (phase - 1), j % width, j / width);
+            for (int c = 0; c < 3 && !(WRONG == 4 && off); c++) work[k][place + c] = copy[k][place + c];
             if (WRONG == 1) *at = i + 1;
             if (WRONG == 3) work[k][place + 3] = 0x12345678;
-            work[k][place + 3] = copy[k][place + 3];
-            if (WRONG == 3) *at = i + 1;
+            if (!(WRONG == 4 && off)) work[k][place + 3] = copy[k][place + 3];
+            if (WRONG == 3 || WRONG == 4 || (WRONG == 5 && !off)) *at = i + 1;
         }
         *at = own;
         made += 5 * two;

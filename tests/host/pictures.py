@@ -48,3 +48,4 @@ special += [0x37000080, 0x3f000100, 0x3f7f7f7f]
 special += [0x3f000000 + k * 0x00012345 for k in range(3 * 31 - len(special))]
 pfm("special.pfm", b"PF\n31 1\n-1.0\n", special)
 pfm("alpha.pfm", b"Pf\n31 1\n-1.0\n", special[32:63])
+pfm("rows.pfm", b"PF\n31 3\n-1.0\n", special + special[::-1] + special[7:] + special[:7])

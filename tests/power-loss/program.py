@@ -38,6 +38,12 @@ def png(random, width, height):
     return b"\x89PNG\r\n\x1a\n" + chunk(b"IHDR", header) + chunk(b"IDAT", zlib.compress(rows, 0)) + chunk(b"IEND", b"")
 
 
+def window(random, width, height):
+    """A window within the picture or past it, or none."""
+    left, top = random.randint(0, width - 1), random.randint(0, height - 1)
+    return random.choice(["", f" window={left},{top},{random.randint(0, width)},{random.randint(0, height)}"])
+
+
 class Program:
     """The worker's words. `run` gives the exit status and what was said."""
 
@@ -61,7 +67,7 @@ class Program:
         pictures = [f"{beside}/{k}.png" for k in range(layers + 1)]
         for picture in pictures:
             write(picture, png(random, width, height))
-        words = [word for picture in pictures[1:] for word in ("--layer", f"{random.choice(OPERATORS)} {picture}")]
+        words = [word for picture in pictures[1:] for word in ("--layer", f"{random.choice(OPERATORS)} {picture}{window(random, width, height)}")]
         return self.said("make", job, "--tray", pictures[0], *words, **environment)
 
     def recorded(self, trace, folder, kill=None, inputs=()):

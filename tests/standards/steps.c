@@ -234,7 +234,8 @@ static void fillFamilies(size_t pixels) {
 
 static void compose(const struct defined *o, size_t pixels) {
     int64_t width = (int64_t)pixels;
-    int64_t table[TRAY_COLUMNS] = {o->number, TRAY_NO_GRAVITY, 0, 0, TRAY_RED + TRAY_GREEN + TRAY_BLUE + TRAY_ALPHA, 0, width, 1, 4, 0};
+    int64_t table[TRAY_COLUMNS] = {o->number, TRAY_NO_GRAVITY, 0, 0, TRAY_RED + TRAY_GREEN + TRAY_BLUE + TRAY_ALPHA, 0, width, 1, 4, 0,
+                                   0, 0, TRAY_MAX_SIDE, TRAY_MAX_SIDE};
     static const uint32_t args[4];
     if (tray_compose(width, 1, 4, destination, 4 * pixels, table, TRAY_COLUMNS, args, 4, source, 4 * pixels, stored, 4 * pixels) != TRAY_DONE) {
         printf("%s: refused\n", o->name);

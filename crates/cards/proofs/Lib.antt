@@ -13,4 +13,5 @@ pub mod Rows
 pub mod Puts
 pub mod Outcome
 pub mod Reader
+pub mod Windows
 pub mod Trials

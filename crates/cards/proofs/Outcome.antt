@@ -9,7 +9,7 @@ use lib.IntN.{ℤ, pos}
 use lib.ListN.{length, getD, drop, length-append, length-map, replicate}
 use borrow.Author.Tests.{leb-true, not-true, eq-eqb, ne-eqb}
 use Rattle.faults.specs.Faults.{NONE}
-use Rattle.layers.specs.Limits.{columns, argWords, mostLayers}
+use Rattle.layers.specs.Limits.{columns, argWords, mostLayers, atLeft}
 use Rattle.numerals.proofs.Bools.{split, and-true}
 use Rattle.cards.specs.Cells.{Cell, name, number, arguments, isCell, areWords, nameHole, numberHole, argumentsHole, columnOf, wordsIn}
 use Rattle.cards.specs.declared.Answer.{Answer}
@@ -18,7 +18,7 @@ use Rattle.cards.specs.declared.lines.Count.the-variants.{Layers, BadLin
 use Rattle.cards.specs.declared.lines.Next.the-variants.{At, Nowhere}
 use Rattle.cards.specs.Forms.{trayForm, layerForm, isHole, fits, Scan, bad, scanned, readForm}
 use Rattle.cards.specs.Card.{allFit, Lines, refused, lines, readLines, Read, asCard, afterTray, readCard}
-use Rattle.cards.specs.Answers.{padded, rowOf, argsIn, rowsOf, argsOf, tableLength, argsLength, tableOf, wordsOf}
+use Rattle.cards.specs.Answers.{padded, numbersOf, fullWindow, rowOf, argsIn, rowsOf, argsOf, tableLength, argsLength, tableOf, wordsOf}
 use Rattle.cards.specs.Answers.{outcome, answer, refusal, outcomeOf, readOf}
 use Rattle.cards.specs.Steps.{put, putWords, holes, noRow, rowed, rowBy, rowIn, putRows, putArgs, Counted, stopped, counted, countedBy, countedIn, Written, written, writtenOf}
 use Rattle.cards.proofs.Card.{Says, lines-say, layer-some, layer-shaped}
@@ -38,6 +38,9 @@ fits-length (c ∷ cs) (v ∷ vs) h =
     split (isHole c)
     (λ e. rw e (ap suc (fits-length cs vs (and-true (isCell c v) (fits cs vs) (rw e at h) .1))))
     (λ e. rw e (fits-length cs (v ∷ vs) (rw e at h)))
+
+pub numbers-length : (form : List ℕ) (v : List Cell) → fits form v ≡ true → length (numbersOf v) ≡ holes form
+numbers-length form v h = length-map v columnOf ∙ fits-length form v h
 
 -- no hole is for arguments
 abbrev bare : (form : List ℕ) → Bool
@@ -117,7 +120,8 @@ one-cells (c ∷ cs) (v ∷ vs) b h =
 
 -- ---- layers
 
-layer-holes : holes layerForm ≡ columns
+-- the numbers before the window
+pub layer-holes : holes layerForm ≡ atLeft
 unfolding layerForm isHole
 layer-holes = refl
 
@@ -125,10 +129,10 @@ layer-single : single layerForm ≡ true
 unfolding layerForm
 layer-single = refl
 
--- a front, and after it the layers' numbers or words, each layer's as many as there is room for
-row-length : (v : List Cell) → fits layerForm v ≡ true → length (rowOf v) ≡ columns
-row-length v h = length-map v columnOf ∙ fits-length layerForm v h ∙ layer-holes
+pub row-length : (v : List Cell) → fits layerForm v ≡ true → length (rowOf v) ≡ columns
+row-length v h = omega (arith, length-append (numbersOf v) fullWindow, numbers-length layerForm v h, layer-holes)
 
+-- a front, and after it the layers' numbers or words, each layer's as many as there is room for
 pub rows-put : (vs : List (List Cell)) (front : List ℤ) (k m : ℕ) → k * columns ≡ length front → allFit layerForm vs ≡ true
     → putRows (front ++ replicate (length vs * columns + m) (pos 0)) k vs ≡ front ++ (rowsOf vs ++ replicate m (pos 0))
 rows-put [] front k m e h = let q : 0 * columns + m ≡ m = omega arith in ap (λ (n : ℕ). front ++ replicate n (pos 0)) q
@@ -170,7 +174,7 @@ args-put (v ∷ vs) front k m e h =
 
 -- ---- a card
 
-rows-length : (vs : List (List Cell)) → allFit layerForm vs ≡ true → length (rowsOf vs) ≡ length vs * columns
+pub rows-length : (vs : List (List Cell)) → allFit layerForm vs ≡ true → length (rowsOf vs) ≡ length vs * columns
 rows-length [] h = omega arith
 rows-length (v ∷ vs) h =
     let p = and-true (fits layerForm v) (allFit layerForm vs) h in
@@ -202,11 +206,11 @@ unfolding trayForm isHole
 tray-holes = refl
 
 -- the tray's row
-tray-put : (v : List Cell) → fits trayForm v ≡ true → put (replicate 3 (pos 0)) 0 (rowOf v) ≡ rowOf v
+tray-put : (v : List Cell) → fits trayForm v ≡ true → put (replicate 3 (pos 0)) 0 (numbersOf v) ≡ numbersOf v
 tray-put v h =
-    let l : length (rowOf v) ≡ 3 = length-map v columnOf ∙ fits-length trayForm v h ∙ tray-holes in
-    let q : 3 ≡ length (rowOf v) + 0 = omega arith in
-    ap (λ (n : ℕ). put (replicate n (pos 0)) 0 (rowOf v)) q ∙ put-front (pos 0) (rowOf v) 0 ∙ append-nil (rowOf v)
+    let l : length (numbersOf v) ≡ 3 = numbers-length trayForm v h ∙ tray-holes in
+    let q : 3 ≡ length (numbersOf v) + 0 = omega arith in
+    ap (λ (n : ℕ). put (replicate n (pos 0)) 0 (numbersOf v)) q ∙ put-front (pos 0) (numbersOf v) 0 ∙ append-nil (numbersOf v)
 
 -- ---- the layers' lines, read into lists of zeros
 
@@ -265,7 +269,7 @@ module _ (s : List ℕ) (row : List ℤ) (table : List ℤ) (args : List ℕ) wh
   record Tray (n : ℕ) : Type 0 where
     v : List Cell
     is : readForm trayForm s ≡ scanned v (drop n s)
-    numbers : row ≡ rowOf v
+    numbers : row ≡ numbersOf v
 
   tray : (n : ℕ) → rowBy (At n) s row ≡ rowIn (replicate 3 (pos 0)) (readForm trayForm s) → Tray n
   tray n e = by (readForm trayForm s) refl e
@@ -274,7 +278,7 @@ module _ (s : List ℕ) (row : List ℤ) (table : List ℤ) (args : List ℕ) wh
       by bad q f = let z : _≡_ {A = ℕ} 0 1 = cc in absurd (omega arith)
       by (scanned v t) q f =
           let u : t ≡ drop n s = cc in
-          let m : row ≡ put (replicate 3 (pos 0)) 0 (rowOf v) = cc in
+          let m : row ≡ put (replicate 3 (pos 0)) 0 (numbersOf v) = cc in
           record { v = v; is = q ∙ ap (scanned v) u; numbers = m ∙ tray-put v (form-back trayForm s v t q .1) }
 
   module _ (n : ℕ) (y : Tray n) where
@@ -294,7 +298,7 @@ module _ (s : List ℕ) (row : List ℤ) (table : List ℤ) (args : List ℕ) wh
         absurd (omega arith)
 
     card-outcome : (k : ℕ) (t : List ℤ) (a : List ℕ) (x : Lines) → written (Layers k) t a ≡ writtenOf x table args
-        → outcome (answerBy (rowOf (y .v)) k) t a ≡ outcomeOf (asCard (y .v) x) table args
+        → outcome (answerBy (numbersOf (y .v)) k) t a ≡ outcomeOf (asCard (y .v) x) table args
     card-outcome k t a (refused j) e =
         let c : Layers k ≡ BadLine j = ap (λ (l : Written). l .count) e in
         let z : _≡_ {A = ℕ} 0 1 = cc in
@@ -304,9 +308,9 @@ module _ (s : List ℕ) (row : List ℤ) (table : List ℤ) (args : List ℕ) wh
         let i : k ≡ length vs = cc in
         let p : t ≡ tableOf vs = ap (λ (l : Written). l .table) e in
         let q : a ≡ wordsOf vs = ap (λ (l : Written). l .args) e in
-        ap (λ (j : ℕ). outcome (answerBy (rowOf (y .v)) j) t a) i
-        ∙ ap (λ (l : List ℤ). outcome (answerBy (rowOf (y .v)) (length vs)) l a) p
-        ∙ ap (λ (l : List ℕ). outcome (answerBy (rowOf (y .v)) (length vs)) (tableOf vs) l) q
+        ap (λ (j : ℕ). outcome (answerBy (numbersOf (y .v)) j) t a) i
+        ∙ ap (λ (l : List ℤ). outcome (answerBy (numbersOf (y .v)) (length vs)) l a) p
+        ∙ ap (λ (l : List ℕ). outcome (answerBy (numbersOf (y .v)) (length vs)) (tableOf vs) l) q
 
   -- after a tray's line up to place n, and the layers' lines
   module _ (n : ℕ) (e : rowBy (At n) s row ≡ rowIn (replicate 3 (pos 0)) (readForm trayForm s)) (t : List ℤ) (a : List ℕ) where

@@ -1,9 +1,10 @@
--- Elements put into a list of one element over and over: they stand at its front, and the rest is as it was. Assumes nothing.
+-- Elements put into a list, in one part or in two; and into one of the same element over and over: they stand at its front, and the rest is as it was.
+-- Assumes nothing.
 use mathlib.Core.Path.{_≡_, refl, sym, ap, _∙_}
 use mathlib.Core.List.{List, [], _∷_, _++_, append-assoc}
 use Prim.Native.Nat.{ℕ, suc, _+_, _-_, _≤_}
 use native.Mathlib.Omega.{arith}
-use lib.ListN.{length, set, length-append, replicate, length-replicate, replicate-append-replicate}
+use lib.ListN.{length, set, length-append, length-set, replicate, length-replicate, replicate-append-replicate}
 use Rattle.cards.specs.Answers.{padded}
 use Rattle.cards.specs.Steps.{put}
 
@@ -11,6 +12,15 @@ module _ {A : Type 0} where
   put-cons : (x : A) (xs : List A) (n : ℕ) (ys : List A) → put (x ∷ xs) (suc n) ys ≡ x ∷ put xs n ys
   put-cons x xs n [] = refl
   put-cons x xs n (y ∷ ys) = put-cons x (set xs n y) (suc n) ys
+
+  pub put-length : (xs : List A) (n : ℕ) (ys : List A) → length (put xs n ys) ≡ length xs
+  put-length xs n [] = refl
+  put-length xs n (y ∷ ys) = put-length (set xs n y) (suc n) ys ∙ length-set xs n y
+
+  -- some, and others after them
+  pub put-then : (xs : List A) (n m : ℕ) (ys zs : List A) → m ≡ n + length ys → put (put xs n ys) m zs ≡ put xs n (ys ++ zs)
+  put-then xs n m [] zs e = let q : m ≡ n = omega arith in ap (λ (k : ℕ). put xs k zs) q
+  put-then xs n m (y ∷ ys) zs e = put-then (set xs n y) (suc n) m ys zs (omega arith)
 
   -- past a front
   pub put-past : (xs zs : List A) (n : ℕ) (ys : List A) → n ≡ length xs → put (xs ++ zs) n ys ≡ xs ++ put zs 0 ys

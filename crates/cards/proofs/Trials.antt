@@ -6,6 +6,7 @@ use Prim.Native.Nat.{ℕ}
 use lib.IntN.{pos, negsuc}
 use Rattle.layers.specs.Cells.{cellOf}
 use Rattle.layers.specs.Limits.{atOperator, atGravity, atRight, atDown, atFlags, atFirst, atWidth, atHeight, atChannels, atCount}
+use Rattle.layers.specs.Limits.{atLeft, atTop, atWindowWidth, atWindowHeight}
 use Rattle.names.specs.Names.{bytes, entries}
 use Rattle.numerals.specs.Digits.{digitOf, charOf, numberIn}
 use Rattle.numerals.specs.Numbers.{decimalText, unsignedOf, decimalOf, hexOf}
@@ -41,8 +42,9 @@ card-read : readCard (trayLine ++ layerLine) ≡ read card
 unfolding trayLine layerLine card layer readCard trayForm layerForm isHole isEnd readOne readWord cellIn readArgument entries decimalOf unsignedOf numberIn digitOf hexOf
 card-read = refl
 
--- its row and its words: Over is operator 0, and the last column counts the arguments
-row : rowOf layer ≡ pos 0 ∷ pos 0 ∷ pos 3 ∷ negsuc 1 ∷ pos 62 ∷ pos 0 ∷ pos 2 ∷ pos 1 ∷ pos 3 ∷ pos 1 ∷ []
+-- its row and its words: Over is operator 0, the last of its numbers counts the arguments, and after them stands the window of edition 1
+row : rowOf layer
+    ≡ pos 0 ∷ pos 0 ∷ pos 3 ∷ negsuc 1 ∷ pos 62 ∷ pos 0 ∷ pos 2 ∷ pos 1 ∷ pos 3 ∷ pos 1 ∷ pos 0 ∷ pos 0 ∷ pos 2048 ∷ pos 2048 ∷ []
 unfolding layer entries
 row = refl
 
@@ -67,8 +69,9 @@ other-printed = refl
 other-row :
     cellOf (rowOf other) atOperator ∷ cellOf (rowOf other) atGravity ∷ cellOf (rowOf other) atRight ∷ cellOf (rowOf other) atDown
     ∷ cellOf (rowOf other) atFlags ∷ cellOf (rowOf other) atFirst ∷ cellOf (rowOf other) atWidth ∷ cellOf (rowOf other) atHeight
-    ∷ cellOf (rowOf other) atChannels ∷ cellOf (rowOf other) atCount ∷ []
-    ≡ pos 57 ∷ pos 1 ∷ pos 2 ∷ pos 3 ∷ pos 4 ∷ pos 5 ∷ pos 6 ∷ pos 7 ∷ pos 8 ∷ pos 2 ∷ []
+    ∷ cellOf (rowOf other) atChannels ∷ cellOf (rowOf other) atCount
+    ∷ cellOf (rowOf other) atLeft ∷ cellOf (rowOf other) atTop ∷ cellOf (rowOf other) atWindowWidth ∷ cellOf (rowOf other) atWindowHeight ∷ []
+    ≡ pos 57 ∷ pos 1 ∷ pos 2 ∷ pos 3 ∷ pos 4 ∷ pos 5 ∷ pos 6 ∷ pos 7 ∷ pos 8 ∷ pos 2 ∷ pos 0 ∷ pos 0 ∷ pos 2048 ∷ pos 2048 ∷ []
 unfolding other entries
 other-row = refl
 

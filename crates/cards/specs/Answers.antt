@@ -1,7 +1,7 @@
 -- What a host has after a card was read (document 02, A.2): "The reader answers the tray's width, height and channels and the layer count, and fills sheet
 -- and arguments, unused arguments 0. Both are lent for the most layers a job may have, and rows past the last layer become 0"; another length is 12, with 0
 -- for the line, before any line; a line out of form or one too many is 12, "with the first such line counted from 1, nothing filled and the other answers
--- 0". Definitions only.
+-- 0". Edition 1 has no field for a window: "a card of edition 1 yields 0, 0, 2,048, 2,048" (A.3). Definitions only.
 use mathlib.Core.Path.{_≡_}
 use mathlib.Core.Bool.{cond, not, _||_}
 use mathlib.Core.List.{List, [], _∷_, _++_, map}
@@ -11,7 +11,8 @@ use lib.Dec.{eqb}
 use lib.IntN.{ℤ, pos}
 use lib.ListN.{length, getD, replicate}
 use Rattle.faults.specs.Faults.{NONE, CARD}
-use Rattle.layers.specs.Limits.{columns, argWords, mostLayers}
+use Rattle.layers.specs.Cells.{cellOf}
+use Rattle.layers.specs.Limits.{columns, argWords, mostLayers, atLeft, atTop, atWindowWidth, atWindowHeight}
 use Rattle.cards.specs.declared.Answer.{Answer}
 use Rattle.cards.specs.Cells.{Cell, columnOf, wordsIn}
 use Rattle.cards.specs.Card.{Card, printed, Read, badLine, read, readCard, Printable, Refusal}
@@ -22,9 +23,17 @@ padded n x xs = xs ++ replicate (n - length xs) x
 
 -- ---- what a card fills
 
+-- the numbers of a line's cells
+abbrev pub numbersOf : List Cell → List ℤ
+numbersOf v = map columnOf v
+
+-- left, top, width and height of the window of edition 1. It names no limit of a job: "a window of 2,048 by 2,048 does not grow" with them (A.9)
+abbrev pub fullWindow : List ℤ
+fullWindow = pos 0 ∷ pos 0 ∷ pos 2048 ∷ pos 2048 ∷ []
+
 -- a layer's row, and its words
 abbrev pub rowOf : List Cell → List ℤ
-rowOf v = map columnOf v
+rowOf v = numbersOf v ++ fullWindow
 
 abbrev pub argsIn : List Cell → List ℕ
 argsIn [] = []
@@ -72,7 +81,7 @@ abbrev pub refusal : ℕ → Answer
 refusal n = answer CARD n (pos 0) (pos 0) (pos 0) (pos 0)
 
 abbrev pub accepted : Card → Answer
-accepted c = let row = rowOf (c .tray) in answer NONE 0 (getD row 0 (pos 0)) (getD row 1 (pos 0)) (getD row 2 (pos 0)) (pos (length (c .layers)))
+accepted c = let row = numbersOf (c .tray) in answer NONE 0 (getD row 0 (pos 0)) (getD row 1 (pos 0)) (getD row 2 (pos 0)) (pos (length (c .layers)))
 
 abbrev pub outcomeOf : Read → (table : List ℤ) → (args : List ℕ) → Outcome
 outcomeOf (badLine n) table args = outcome (refusal n) table args
@@ -85,7 +94,7 @@ readOf text table args =
     (outcome (refusal 0) table args)
     (outcomeOf (readCard text) table args)
 
--- ---- what is shown of the outcome (proofs/Reader)
+-- ---- what is shown of the outcome (proofs/Reader, Windows)
 
 -- both lists are lent for the most layers; or one is lent for another number
 abbrev pub RightLengths : List ℤ → List ℕ → Type 0
@@ -107,3 +116,8 @@ pub record Refused (text : List ℕ) (table : List ℤ) (args : List ℕ) (o : O
   pub line : ℕ
   pub answered : o ≡ outcome (refusal line) table args
   pub why : ((line ≡ 0) × OtherLength table args) ⊎ (RightLengths table args × Refusal text line)
+
+-- a row has the window of edition 1
+abbrev pub Windowed : (row : List ℤ) → Type 0
+Windowed row =
+    (cellOf row atLeft ≡ pos 0) × (cellOf row atTop ≡ pos 0) × (cellOf row atWindowWidth ≡ pos 2048) × (cellOf row atWindowHeight ≡ pos 2048)

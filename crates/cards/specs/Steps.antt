@@ -20,7 +20,7 @@ use Rattle.cards.specs.declared.lines.Count.the-variants.{Layers, BadLin
 use Rattle.cards.specs.Cells.{Cell, columnOf, wordsIn}
 use Rattle.cards.specs.Forms.{isHole, Scan, bad, scanned, Argument, ended, noWord, word}
 use Rattle.cards.specs.Card.{Lines, refused, lines}
-use Rattle.cards.specs.Answers.{tableOf, wordsOf}
+use Rattle.cards.specs.Answers.{rowOf, tableOf, wordsOf}
 
 -- ---- a hole
 
@@ -121,7 +121,7 @@ rowIn row (scanned vs t) = rowed (put row 0 (map columnOf vs)) t
 -- rows put into the table, and their words into the arguments, from layer k on
 abbrev pub putRows : List ℤ → ℕ → List (List Cell) → List ℤ
 putRows table k [] = table
-putRows table k (v ∷ vs) = putRows (put table (k * columns) (map columnOf v)) (suc k) vs
+putRows table k (v ∷ vs) = putRows (put table (k * columns) (rowOf v)) (suc k) vs
 
 abbrev pub putArgs : List ℕ → ℕ → List (List Cell) → List ℕ
 putArgs args k [] = args

@@ -1,15 +1,16 @@
-// Lines: a form read from a place of the text on, and lines of one form. The numbers of the holes go to the table, the arguments to their list.
+// Lines: a form read from a place of the text on, and lines of one form. The numbers of the holes go to the table, the arguments to their list; a layer's
+// row ends in the window of edition 1.
 ghost use mathlib.Core.Path.{_≡_};
 ghost use mathlib.Core.Bool.{cond};
 ghost use Prim.Native.Nat.{_+_, _*_, _≤_};
 ghost use lib.Dec.{eqb};
 ghost use lib.ListN.{length, drop, set};
 ghost use Rattle.lent.specs.Lent.{before, after};
-ghost use Rattle.layers.specs.Limits.{columns, argWords, mostLayers};
+ghost use Rattle.layers.specs.Limits.{columns, argWords, mostLayers, atLeft};
 ghost use Rattle.cards.specs.Forms.{trayForm, layerForm, readForm};
 ghost use Rattle.cards.specs.Card.{readLines};
-ghost use Rattle.cards.specs.Answers.{tableLength, argsLength};
-ghost use Rattle.cards.specs.Steps.{holes, filledBy, filledIn, reach, rowBy, rowIn, countedBy, countedIn};
+ghost use Rattle.cards.specs.Answers.{fullWindow, tableLength, argsLength};
+ghost use Rattle.cards.specs.Steps.{put, holes, filledBy, filledIn, reach, rowBy, rowIn, countedBy, countedIn};
 use crate::MOST;
 use crate::holes::holes;
 use crate::holes::one;
@@ -74,7 +75,19 @@ fn scan(
     Next::At(at)
 }
 
-// Lines of one form from a place of a text on, at most so many; the first of them is the second of the card.
+// The window that a card of edition 1 yields: left, top, width and height, in the table from place `at` on.
+fn full_window(table: &mut [i64], at: usize)
+    requires { ⌜ at + 4 ≤ length (now table) ⌝ }
+    ensures { λ _. ⌜ after table ≡ put (before table) at fullWindow ⌝ }
+{
+    table[at] = 0;
+    table[at + 1] = 0;
+    table[at + 2] = 2048;
+    table[at + 3] = 2048;
+}
+
+// Lines of one form from a place of a text on, at most so many; the first of them is the second of the card. Each is a row, whose numbers before the
+// window are those of the form's holes.
 fn lines(
     s: &[u8],
     from: usize,
@@ -83,7 +96,7 @@ fn lines(
     table: &mut [i64],
     args: &mut [u32],
 ) -> Count
-    requires { ⌜ (from ≤ length (now s)) × (holes (now form) ≤ columns) ⌝ }
+    requires { ⌜ (from ≤ length (now s)) × (holes (now form) ≡ atLeft) ⌝ }
     requires { ⌜ (most * columns ≤ length (now table)) × (most * argWords ≤ length (now args)) ⌝ }
     ensures { λ r. ⌜
         countedBy r (after table) (after args) ≡ countedIn (before table) (before args) 0 (readLines (before form) most 2 (drop from (before s)))
@@ -97,17 +110,11 @@ fn lines(
         if most <= k {
             return Count::BadLine(line);
         }
-        let Next::At(next) = scan(
-            s,
-            at,
-            form,
-            table,
-            k * Layer::COLUMNS,
-            args,
-            k * Layer::ARGS,
-        ) else {
+        let row = k * Layer::COLUMNS;
+        let Next::At(next) = scan(s, at, form, table, row, args, k * Layer::ARGS) else {
             return Count::BadLine(line);
         };
+        full_window(table, row + Layer::AT_LEFT);
         at = next;
         k += 1;
     }

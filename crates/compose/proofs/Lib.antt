@@ -3,3 +3,4 @@ mod Outcomes
 pub mod Parts
 pub mod Pixels
 pub mod Placed
+pub mod Windows

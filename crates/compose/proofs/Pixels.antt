@@ -18,6 +18,10 @@ some-width : (w h j : ℕ) → j < w * h → 1 ≤ w
 some-width zero h j a = absurd (omega (arith, zero-mul h))
 some-width (suc w) h j a = omega arith
 
+-- the column and the row of a pixel lie in the picture
+pub column-row : (w h j : ℕ) → j < w * h → (j % w < w) × (j / w < h)
+column-row w h j a = let some = some-width w h j a in (mod-lt j some, div-lt-iff-lt-mul some .1 (rw (mul-comm h w) a))
+
 -- x and y are the column and the row of pixel from + i: those of the next
 module _ (w from i : ℕ) {x y : ℕ} (e : x ≡ (from + i) % w) (f : y ≡ (from + i) / w) where
   next : 1 ≤ w → ((x + 1) % w ≡ (from + (i + 1)) % w) × (y + (x + 1) / w ≡ (from + (i + 1)) / w)
@@ -41,10 +45,8 @@ index-held tile sw sh corner x y Off e = tt
 pub at-run : {p : Plan} {words channels from count x y : ℕ} (i : ℕ) → Run p words channels from count → i < count
     → x ≡ (from + i) % p .dw → y ≡ (from + i) / p .dw → Beneath p words channels x y
 at-run {p} {from = from} i r h e f =
-    let j : from + i < p .dw * p .dh = omega (arith, r .inside) in
-    let w = some-width (p .dw) (p .dh) (from + i) j in
-    let row : (from + i) / p .dw < p .dh = div-lt-iff-lt-mul w .1 (rw (mul-comm (p .dh) (p .dw)) j) in
-    record { width = r .width; height = r .height; picture = r .picture; column = rw e (mod-lt (from + i) w); row = rw f row }
+    let at = column-row (p .dw) (p .dh) (from + i) (omega (arith, r .inside)) in
+    record { width = r .width; height = r .height; picture = r .picture; column = rw e (at .0); row = rw f (at .1) }
 
 -- the words of a run of a picture that is lent whole
 pub span-words : {p : Plan} {words channels from count : ℕ} → Span p words channels from count → channels * (from + count) ≤ words

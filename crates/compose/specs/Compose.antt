@@ -1,7 +1,8 @@
 -- `compose_float` (composite.rs 594 to 647) restated over values and their words, pixel by pixel and in its order: one pixel of the result from the layer, the
 -- destination's sides dw and dh, a reader of the picture beneath, and the pixel's number j, row by row: its column x is j % dw, its row y is j / dw.
--- Document 01: "Where a source lands", "Float steps" on what is stored. Definitions only.
-use mathlib.Core.Bool.{Bool, true, false, cond, _||_}
+-- Document 01: "Where a source lands", "Float steps" on what is stored. Document 02, A.3: the pixels off a layer's window are kept, which the Rust does not
+-- know; specs/Unwindowed has the Rust's own result. Definitions only.
+use mathlib.Core.Bool.{Bool, true, false, cond, _&&_, _||_}
 use mathlib.Core.List.{List}
 use Prim.Native.Nat.{ℕ, _*_, _/_, _%_}
 use lib.IntN.{pos}
@@ -22,6 +23,7 @@ use Rattle.places.specs.declared.Index.the-variants.{At, Off}
 use Rattle.layers.specs.declared.ChannelMask.{ChannelMask}
 use Rattle.layers.specs.declared.Layer.{Layer}
 use Rattle.layers.specs.declared.Source.{Source}
+use Rattle.layers.specs.Windows.{holds}
 use Rattle.pictures.specs.Widen.{wordsOf, rgbaAt, valuesOf}
 use Rattle.pictures.specs.FlatWords.{flat}
 use Rattle.pictures.specs.Bilinear.{neighboursOf, mixOf}
@@ -51,9 +53,13 @@ abbrev pub inside : Index → Bool
 inside (At n) = true
 inside Off = false
 
--- whether a layer writes pixel j, as `outside_overlay` (composite.rs 616 to 618) has it: it lies on the source, or overlay is on
+-- whether a layer covers pixel j, as `outside_overlay` (composite.rs 616 to 618) has it: it lies on the source, or overlay is on
+abbrev pub covers : Layer → (dw dh j : ℕ) → Bool
+covers l dw dh j = inside (indexOn l dw dh j) || l .«outside_overlay»
+
+-- whether a layer writes pixel j: its window holds the pixel (document 02, A.3), and it covers it
 unfoldable pub writes : Layer → (dw dh j : ℕ) → Bool
-writes l dw dh j = inside (indexOn l dw dh j) || l .«outside_overlay»
+writes l dw dh j = holds (l .window) (j % dw) (j / dw) && covers l dw dh j
 
 -- `sp` (composite.rs 619 to 624): the source's pixel, of so many channels; off the source (0, 0, 0, 0)
 unfoldable pub sourcePixel : List ℕ → (channels : ℕ) → Index → Rgba
@@ -105,15 +111,18 @@ writtenOf m v kept =
     wordsOf (writtenWord (m .red) (v .r) (kept .r)) (writtenWord (m .green) (v .g) (kept .g))
     (writtenWord (m .blue) (v .b) (kept .b)) (writtenWord (m .alpha) (v .a) (kept .a))
 
--- Pixel j of a layer on the picture beneath, whose pixel i is `beneath i`.
-unfoldable pub composedAt : List ℕ → Layer → (dw dh : ℕ) → (ℕ → Words) → (j : ℕ) → Words
-composedAt samples l dw dh beneath j =
+-- pixel j where it is written, on the picture beneath, whose pixel i is `beneath i`
+abbrev pub writtenAt : List ℕ → Layer → (dw dh : ℕ) → (ℕ → Words) → (j : ℕ) → Words
+writtenAt samples l dw dh beneath j =
     let s = sourcePixel (sourceOf samples (l .source)) (l .source .channels) (indexOn l dw dh j) in
-    let r = resultOf l dw dh (λ i. valuesOf (beneath i)) s (valuesOf (beneath j)) j in
-    cond (writes l dw dh j) (writtenOf (l .mask) r (beneath j)) (beneath j)
+    writtenOf (l .mask) (resultOf l dw dh (λ i. valuesOf (beneath i)) s (valuesOf (beneath j)) j) (beneath j)
+
+-- Pixel j of a layer on the picture beneath.
+unfoldable pub composedAt : List ℕ → Layer → (dw dh : ℕ) → (ℕ → Words) → (j : ℕ) → Words
+composedAt samples l dw dh beneath j = cond (writes l dw dh j) (writtenAt samples l dw dh beneath j) (beneath j)
 
 -- ---- the picture
 
--- the whole result of `compose_float`: a layer on a destination of so many channels
+-- the whole result: a layer on a destination of so many channels
 abbrev pub composedOf : List ℕ → Layer → (dw dh channels : ℕ) → List ℕ → List ℕ
 composedOf samples l dw dh channels dst = flat (composedAt samples l dw dh (rgbaAt dst channels)) 0 (dw * dh)

@@ -3,3 +3,4 @@ pub mod Compose
 pub mod Plans
 pub mod Ready
 pub mod Single
+pub mod Unwindowed

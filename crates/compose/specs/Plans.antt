@@ -1,6 +1,6 @@
 -- A layer's plan, which the code works out once a layer, and a pixel computed from it. Compose says what the layer asks for; that the plan gives the same
 -- is part of the contract of `plan` (`Planned`, Ready). Definitions only.
-use mathlib.Core.Bool.{Bool, cond, _||_}
+use mathlib.Core.Bool.{Bool, cond, _&&_, _||_}
 use mathlib.Core.List.{List}
 use Prim.Native.Nat.{ℕ, _+_, _/_, _%_}
 use Rattle.float_steps.specs.Axis.{axisOf}
@@ -10,6 +10,7 @@ use Rattle.operators.specs.declared.CompositeOp.the-variants as O
 use Rattle.places.specs.Indices.{sourceIndex}
 use Rattle.places.specs.declared.Index.{Index}
 use Rattle.layers.specs.declared.Layer.{Layer}
+use Rattle.layers.specs.Windows.{holds}
 use Rattle.pictures.specs.Widen.{valuesOf}
 use Rattle.pictures.specs.Bilinear.{neighboursOf, mixOf}
 use Rattle.pictures.specs.declared.Rgba.{Rgba}
@@ -35,6 +36,7 @@ planOf l dw dh = record {
   channels = l .source .channels;
   dw = dw;
   dh = dh;
+  window = l .window;
 }
 
 -- ---- the pixel in column x and row y by the plan, as Compose has it by the layer
@@ -42,8 +44,11 @@ planOf l dw dh = record {
 abbrev pub indexBy : Plan → (x y : ℕ) → Index
 indexBy p x y = sourceIndex (p .tile) (p .width) (p .height) (p .corner) x y
 
+abbrev pub coversBy : Plan → (x y : ℕ) → Bool
+coversBy p x y = inside (indexBy p x y) || p .overlay
+
 abbrev pub writesBy : Plan → (x y : ℕ) → Bool
-writesBy p x y = inside (indexBy p x y) || p .overlay
+writesBy p x y = holds (p .window) x y && coversBy p x y
 
 abbrev pub mapColumnBy : Plan → (s : Rgba) → (x : ℕ) → Axis
 mapColumnBy p s x = axisOf (mapCoordinate (p .displace) x (s .r) (p .params .a)) (p .dw)

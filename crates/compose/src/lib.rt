@@ -8,6 +8,7 @@ pub mod single; // single.rt: the single composition
 pub mod source; // source.rt: a layer's part of the source samples
 
 use layers::ChannelMask;
+use layers::Window;
 use operators::CompositeOp;
 use pixels::Params;
 use places::Corner;
@@ -27,4 +28,5 @@ pub struct Plan {
     pub channels: usize,
     pub dw: usize,
     pub dh: usize,
+    pub window: Window,
 }

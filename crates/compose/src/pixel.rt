@@ -4,11 +4,12 @@ ghost use Prim.Native.Nat.{_*_, _<_, _≤_};
 ghost use lib.ListN.{length};
 ghost use Rattle.lent.specs.Lent.{before};
 ghost use Rattle.layers.specs.GoodLayers.{Picture};
+ghost use Rattle.layers.specs.Windows.{holds};
 ghost use Rattle.pictures.specs.Steps.{valuesAt};
 ghost use Rattle.places.specs.Bounds.{slack, Under};
 ghost use Rattle.float_steps.specs.Axis.{axisOf};
 ghost use Rattle.compose.specs.Compose.{sourcePixel, mapCoordinate, writtenWord, writtenOf};
-ghost use Rattle.compose.specs.Plans.{indexBy, writesBy, mappedBy, paintedBy, resultBy, composedBy};
+ghost use Rattle.compose.specs.Plans.{indexBy, coversBy, mappedBy, paintedBy, resultBy, composedBy};
 ghost use Rattle.compose.specs.Ready.{Ready, Beneath};
 use crate::Plan;
 use float_steps::axis::Axis;
@@ -24,11 +25,19 @@ use pictures::widen::values;
 use places::Index;
 use places::source_index;
 
-// Whether the layer writes the pixel (x, y), on which the source's pixel `index` lies: there is one, or overlay is on. The
+// Whether the layer's window holds the pixel (x, y).
+fn in_window(p: Plan, x: usize, y: usize) -> bool
+    ensures { λ r. ⌜ r ≡ holds (p .window) x y ⌝ }
+{
+    let window = p.window;
+    window.holds(x, y)
+}
+
+// Whether the layer covers the pixel (x, y), on which the source's pixel `index` lies: there is one, or overlay is on. The
 // column and the row stand here for the contract alone.
-pub fn writing(p: Plan, index: Index, x: usize, y: usize) -> bool
+pub fn covers(p: Plan, index: Index, x: usize, y: usize) -> bool
     requires { ⌜ index ≡ indexBy p x y ⌝ }
-    ensures { λ r. ⌜ r ≡ writesBy p x y ⌝ }
+    ensures { λ r. ⌜ r ≡ coversBy p x y ⌝ }
 {
     match index {
         Index::At(_) => true,
@@ -121,7 +130,7 @@ pub fn written(m: ChannelMask, v: Rgba, kept: Words) -> Words
     }
 }
 
-// The pixel (x, y) of the result, from its own words beneath and, for a map, the whole picture beneath.
+// The pixel (x, y) of the result, from its own words beneath and, for a map, the whole picture beneath. Off the window nothing is computed.
 pub fn composed(
     p: Plan,
     source: &[u32],
@@ -134,8 +143,11 @@ pub fn composed(
     requires { ⌜ (Ready p (length (now source))) × (Beneath p (length (now picture)) channels x y) ⌝ }
     ensures { λ r. ⌜ r ≡ composedBy p (before source) (valuesAt (before picture) channels) own x y ⌝ }
 {
+    if !in_window(p, x, y) {
+        return own;
+    }
     let index = source_index(p.tile, p.width, p.height, p.corner, x, y);
-    if writing(p, index, x, y) {
+    if covers(p, index, x, y) {
         let s = source_pixel(p, source, index);
         let v = result(p, picture, channels, s, values(own), x, y);
         return written(p.mask, v, own);

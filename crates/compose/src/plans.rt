@@ -57,6 +57,7 @@ pub fn plan(l: Layer, dw: usize, dh: usize) -> Plan
         l.down,
     );
     let mask = l.mask;
+    let window = l.window;
     Plan {
         op,
         params,
@@ -71,5 +72,6 @@ pub fn plan(l: Layer, dw: usize, dh: usize) -> Plan
         channels: source.channels,
         dw,
         dh,
+        window,
     }
 }

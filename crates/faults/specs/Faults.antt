@@ -52,3 +52,7 @@ NARROW = 11
 -- document 02: the length of a list that a card is read into, or a line of the card
 abbrev pub CARD : ℕ
 CARD = 12
+
+-- document 02: a number of a layer's window
+abbrev pub WINDOW : ℕ
+WINDOW = 13

@@ -31,4 +31,6 @@ impl Fault {
     pub const NARROW: u64 = 11;
 
     pub const CARD: u64 = 12;
+
+    pub const WINDOW: u64 = 13;
 }

@@ -5,3 +5,4 @@ pub mod Sequence
 pub mod Loans
 pub mod Uses
 pub mod Demand
+pub mod Windows

@@ -1,6 +1,7 @@
 pub mod Memory
 pub mod Job
 pub mod Call
+pub mod Unwindowed
 pub mod Uses
 pub mod Steps
 pub mod Loans

@@ -1,4 +1,4 @@
--- A job's inputs and their first fault: document 01's checks 1 and 2, then 3 to 8 layer by layer. The checks of the memory
+-- A job's inputs and their first fault: document 01's checks 1 and 2, then 3 to 8 and document 02's 13 layer by layer. The checks of the memory
 -- that a job is lent, 9 and 10, are not here.
 use mathlib.Core.Bool.{Bool, cond, not, _||_}
 use mathlib.Core.List.{List}

@@ -1,6 +1,6 @@
--- A layer as one value, from its row of the layer table and its words of the arguments (document 01: "ten signed 64-bit
--- numbers a layer"; flags; arguments, of which "those past the count are not read"). Every row decodes to a layer; that the numbers are in
--- their ranges is asked in Faults.
+-- A layer as one value, from its row of the layer table and its words of the arguments (document 01: "ten signed 64-bit numbers a layer", and document
+-- 02's four; flags; arguments, of which "those past the count are not read"). Every row decodes to a layer; that the numbers are in their ranges is asked
+-- in Faults.
 use mathlib.Core.Bool.{Bool, cond}
 use mathlib.Core.List.{List}
 use Prim.Native.Nat.{ℕ, _/_, _%_}
@@ -14,7 +14,9 @@ use Rattle.layers.specs.declared.Args.{Args}
 use Rattle.layers.specs.declared.ChannelMask.{ChannelMask}
 use Rattle.layers.specs.declared.Layer.{Layer}
 use Rattle.layers.specs.declared.Source.{Source}
+use Rattle.layers.specs.declared.Window.{Window}
 use Rattle.layers.specs.Cells.{rowAt, wordsAt, cellOf}
+use Rattle.layers.specs.Windows.{windowIn}
 use Rattle.layers.specs.Limits.{atOperator, atGravity, atRight, atDown, atFlags, atFirst, atWidth, atHeight, atChannels, atCount, tileBit, overlayBit, redBit, greenBit, blueBit, alphaBit}
 
 -- a bit, a power of two, stands in the flags
@@ -61,8 +63,24 @@ layerOf row words = record {
   mask = maskOf (natOf (cellOf row atFlags));
   source = sourceIn row;
   args = argsOf words (natOf (cellOf row atCount));
+  window = windowIn row;
 }
 
 -- layer k of a job
 unfoldable pub layerAt : (table : List ℤ) → (args : List ℕ) → (k : ℕ) → Layer
 layerAt table args k = layerOf (rowAt table k) (wordsAt args k)
+
+-- the layer with another window
+abbrev pub withWindow : Window → Layer → Layer
+withWindow w l = record {
+  op = l .op;
+  gravity = l .gravity;
+  right = l .right;
+  down = l .down;
+  tile = l .tile;
+  «outside_overlay» = l .«outside_overlay»;
+  mask = l .mask;
+  source = l .source;
+  args = l .args;
+  window = w;
+}

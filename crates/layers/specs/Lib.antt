@@ -4,3 +4,4 @@ pub mod GoodLayers
 pub mod Inputs
 pub mod Layers
 pub mod Limits
+pub mod Windows

@@ -2,10 +2,11 @@
 -- job is turned down" and the line on flags). The associated constants of the layer type and of `ChannelMask` have the
 -- same values. The largest side stands in pictures/specs/Shapes, the last gravity in places/specs/Gravities.
 use Prim.Native.Nat.{ℕ}
+use Rattle.pictures.specs.Shapes.{mostSide}
 
 -- the numbers that the layer table has for a layer, and the words of its arguments
 abbrev pub columns : ℕ
-columns = 10
+columns = 14
 
 abbrev pub argWords : ℕ
 argWords = 4
@@ -19,6 +20,10 @@ mostOffset = 1000000
 
 abbrev pub mostFlags : ℕ
 mostFlags = 63
+
+-- the largest number of a window, as large as the largest side
+abbrev pub mostWindow : ℕ
+mostWindow = mostSide
 
 -- the columns of a layer's row
 abbrev pub atOperator : ℕ
@@ -50,6 +55,18 @@ atChannels = 8
 
 abbrev pub atCount : ℕ
 atCount = 9
+
+abbrev pub atLeft : ℕ
+atLeft = 10
+
+abbrev pub atTop : ℕ
+atTop = 11
+
+abbrev pub atWindowWidth : ℕ
+atWindowWidth = 12
+
+abbrev pub atWindowHeight : ℕ
+atWindowHeight = 13
 
 -- the bits of the flags
 abbrev pub tileBit : ℕ

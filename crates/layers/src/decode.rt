@@ -9,6 +9,7 @@ use crate::Args;
 use crate::ChannelMask;
 use crate::Layer;
 use crate::Source;
+use crate::Window;
 use crate::cells::cell;
 use crate::cells::natural_at;
 use crate::cells::row_at;
@@ -102,6 +103,7 @@ impl Layer {
             mask: mask,
             source: source,
             args: args,
+            window: Window::of(row),
         }
     }
 

@@ -4,7 +4,7 @@ ghost use lib.ListN.{length};
 ghost use Rattle.lent.specs.Lent.{before};
 ghost use Rattle.operators.specs.Numbers.{opOf};
 ghost use Rattle.layers.specs.Cells.{cellOf};
-ghost use Rattle.layers.specs.Faults.{opFault, badPlacing, sourceShape, badSource, layerFault};
+ghost use Rattle.layers.specs.Faults.{opFault, badPlacing, sourceShape, badSource, badWindow, layerFault};
 ghost use Rattle.layers.specs.Limits.{columns, atOperator};
 use crate::Layer;
 use crate::cells::cell;
@@ -72,6 +72,23 @@ fn bad_source(row: &[i64], samples: usize) -> bool
     samples < natural(first) + sample_count(shape)
 }
 
+// Whether a number of a row's window is out of its range.
+fn bad_window(row: &[i64]) -> bool
+    requires { ⌜ length (now row) ≡ columns ⌝ }
+    ensures { λ r. ⌜ r ≡ badWindow (before row) ⌝ }
+{
+    if outside_at(row, Layer::AT_LEFT, 0, Layer::WINDOW) {
+        return true;
+    }
+    if outside_at(row, Layer::AT_TOP, 0, Layer::WINDOW) {
+        return true;
+    }
+    if outside_at(row, Layer::AT_WINDOW_WIDTH, 0, Layer::WINDOW) {
+        return true;
+    }
+    outside_at(row, Layer::AT_WINDOW_HEIGHT, 0, Layer::WINDOW)
+}
+
 impl Layer {
     // The number of a row's first fault, or NONE.
     pub fn fault(row: &[i64], samples: usize) -> u64
@@ -83,6 +100,7 @@ impl Layer {
         let flags = outside_at(row, Self::AT_FLAGS, 0, Self::FLAGS);
         let source = bad_source(row, samples);
         let arguments = outside_at(row, Self::AT_COUNT, 0, Self::ARGS as i64);
+        let window = bad_window(row);
         if operator != Fault::NONE {
             return operator;
         }
@@ -97,6 +115,9 @@ impl Layer {
         }
         if arguments {
             return Fault::ARGUMENTS;
+        }
+        if window {
+            return Fault::WINDOW;
         }
         Fault::NONE
     }

@@ -4,9 +4,11 @@ mod cells; // cells.rt: the rows of the layer table and their numbers
 mod decode; // decode.rt: a layer from its row
 mod fault; // fault.rt: the faults of a row
 mod inputs; // inputs.rt: the first fault of a job's inputs
+mod windows; // windows.rt: a layer's window, and the pixels that it holds
 
 pub use inputs::check;
 use operators::CompositeOp;
+use pictures::Shape;
 use places::Gravity;
 
 // Which channels a layer writes.
@@ -34,6 +36,14 @@ pub struct Args {
     pub a3: u32,
 }
 
+// The pixels of the destination that a layer may write (document 02, A.3).
+pub struct Window {
+    pub left: usize,
+    pub top: usize,
+    pub width: usize,
+    pub height: usize,
+}
+
 pub struct Layer {
     pub op: CompositeOp,
     pub gravity: Gravity,
@@ -44,6 +54,7 @@ pub struct Layer {
     pub mask: ChannelMask,
     pub source: Source,
     pub args: Args,
+    pub window: Window,
 }
 
 // The number of a job's first fault and its layer, 0 where it has none.
@@ -65,7 +76,7 @@ impl ChannelMask {
 
 impl Layer {
     // What the layer table and the arguments have for a layer, a job's limits, and the first two bits of the flags.
-    pub const COLUMNS: usize = 10;
+    pub const COLUMNS: usize = 14;
 
     pub const ARGS: usize = 4;
 
@@ -74,6 +85,8 @@ impl Layer {
     pub const OFFSET: i64 = 1000000;
 
     pub const FLAGS: i64 = 63;
+
+    pub const WINDOW: i64 = Shape::SIDE;
 
     pub const TILE: usize = 1;
 
@@ -98,4 +111,12 @@ impl Layer {
     pub const AT_CHANNELS: usize = 8;
 
     pub const AT_COUNT: usize = 9;
+
+    pub const AT_LEFT: usize = 10;
+
+    pub const AT_TOP: usize = 11;
+
+    pub const AT_WINDOW_WIDTH: usize = 12;
+
+    pub const AT_WINDOW_HEIGHT: usize = 13;
 }

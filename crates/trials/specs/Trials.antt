@@ -28,7 +28,7 @@ use Rattle.blends.specs.Blends.{colorBurnOf}
 use Rattle.pixels.specs.Channel.{overUnionOf}
 use Rattle.pixels.specs.Pixel.{overBy, unused, pixelOf}
 use Rattle.pictures.specs.Shapes.{natOf, outsideZ, badChannels, shapeOf, badShape}
-use Rattle.layers.specs.Faults.{badPlacing, badSource, layerFault}
+use Rattle.layers.specs.Faults.{badPlacing, badSource, badWindow, layerFault}
 use Rattle.layers.specs.Inputs.{Inputs, inputsOf, badStack, badDst, rowsFault, jobFault}
 use Rattle.job.specs.declared.Answer.{Answer}
 use Rattle.job.specs.Memory.{Mem, memOf, positionOf, stored}
@@ -80,11 +80,11 @@ nameAnswer text = nameOf (fromName (bytes text)) 70
 abbrev pub sameAnswer : NameAnswer → ℕ → ℕ → Bool
 sameAnswer a number operator = eqb (a .number) number && eqb (a .operator) operator
 
--- a destination of 2 by 1 pixels and one layer, Over with all channels, on work buffers that hold anything
+-- a destination of 2 by 1 pixels and one layer, Over with all channels and the window of a card of edition 1, on work buffers that hold anything
 abbrev pub twoByOne : Inputs
 twoByOne =
     inputsOf (shapeOf (pos 2) (pos 1) (pos 1)) (0x3f00_0000 ∷ 0x3f80_0000 ∷ []) (pos 1)
-    (pos 0 ∷ pos 0 ∷ pos 0 ∷ pos 0 ∷ pos 62 ∷ pos 0 ∷ pos 1 ∷ pos 1 ∷ pos 1 ∷ pos 0 ∷ [])
+    (pos 0 ∷ pos 0 ∷ pos 0 ∷ pos 0 ∷ pos 62 ∷ pos 0 ∷ pos 1 ∷ pos 1 ∷ pos 1 ∷ pos 0 ∷ pos 0 ∷ pos 0 ∷ pos 2048 ∷ pos 2048 ∷ [])
     (0 ∷ 0 ∷ 0 ∷ 0 ∷ [])
     (0x3e80_0000 ∷ [])
 
@@ -159,5 +159,5 @@ table =
     ∷ []
 
 pub trials : T (all table)
-unfolding wrapOf remEuclidOf sqrtOf byteOf smallerOf clampOf colorBurnOf overUnionOf overBy placementOf axisIndex fromName entries isKept lower history programOf modelOf writeSequence pictureWrites blocks stored callOf acceptedOf callFault memoryFault jobFault badStack badDst rowsFault layerFault named badPlacing badSource badShape badChannels outsideZ natOf runOf writeAt ofBits toBits add sub mul div rem lt le eq isNan
+unfolding wrapOf remEuclidOf sqrtOf byteOf smallerOf clampOf colorBurnOf overUnionOf overBy placementOf axisIndex fromName entries isKept lower history programOf modelOf writeSequence pictureWrites blocks stored callOf acceptedOf callFault memoryFault jobFault badStack badDst rowsFault layerFault named badPlacing badSource badWindow badShape badChannels outsideZ natOf runOf writeAt ofBits toBits add sub mul div rem lt le eq isNan
 trials = tt

@@ -5,7 +5,10 @@
 //! back. There pixman and ImageMagick are timed too, where they are installed, for the operators that they have. Each
 //! ratio is of times taken in turn in the same process: ours is timed in both, and never against a time of the other.
 //!
+//! All layers have the full window, which cuts nothing; `bench windows` measures what another one spares.
+//!
 //!     bench [SIDE..]        sides of the square pictures: 64 1024 2048 without any
+//!     bench windows         some operators under a full, a small and an empty window, at 1024²
 
 mod allocator;
 mod clock;
@@ -14,6 +17,7 @@ mod others;
 mod ratios;
 mod tables;
 mod turns;
+mod windows;
 
 use inputs::Pair;
 use ratios::{Ratios, Work};
@@ -64,25 +68,38 @@ fn processor() -> String {
     name.map_or("unknown", |line| line.trim_start_matches([' ', '\t', ':'])).to_string()
 }
 
+/// How the numbers of the tables were measured.
+fn heading() {
+    println!("{}; one thread; processor time, each ratio the median of the turns of one process", processor());
+}
+
+/// The tables of README.md, with a column for each of the sides.
+fn compared(sides: &[usize]) {
+    for library in others::LIBRARIES.iter().filter(|library| !library.is_there()) {
+        eprintln!("{} is not installed (Debian's {}): its row is left out", library.name, library.package);
+    }
+    heading();
+    let columns: Vec<Vec<Row>> = sides.iter().map(|side| column(*side)).collect();
+    tables::summary(sides, &columns);
+    tables::operators(sides, &columns);
+    tables::stacks(&[64, 128, 256, 512, 1024, 2048]);
+}
+
 fn main() {
     let words: Vec<String> = std::env::args().skip(1).collect();
     let number = |text: &String| {
         text.parse().ok().filter(|side| (1..=tray::SIDE as usize).contains(side)).unwrap_or_else(|| {
-            eprintln!("bench [SIDE..]: a side is a number from 1 to {}, not {text}", tray::SIDE);
+            eprintln!("bench [SIDE..] or bench windows: a side is a number from 1 to {}, not {text}", tray::SIDE);
             std::process::exit(2)
         })
     };
-    let sides = match &words[..] {
-        [] => vec![64, 1024, 2048],
-        [kind, side, keep] if kind == "part" => return part(number(side), keep == "true"),
-        given => given.iter().map(number).collect(),
-    };
-    for library in others::LIBRARIES.iter().filter(|library| !library.is_there()) {
-        eprintln!("{} is not installed (Debian's {}): its row is left out", library.name, library.package);
+    match &words[..] {
+        [] => compared(&[64, 1024, 2048]),
+        [kind, side, keep] if kind == "part" => part(number(side), keep == "true"),
+        [kind] if kind == "windows" => {
+            heading();
+            windows::table(1024);
+        }
+        given => compared(&given.iter().map(number).collect::<Vec<_>>()),
     }
-    println!("{}; one thread; processor time, each ratio the median of the turns of one process", processor());
-    let columns: Vec<Vec<Row>> = sides.iter().map(|side| column(*side)).collect();
-    tables::summary(&sides, &columns);
-    tables::operators(&sides, &columns);
-    tables::stacks(&[64, 128, 256, 512, 1024, 2048]);
 }

@@ -17,20 +17,26 @@ impl Work {
     pub fn new(pair: &Pair) -> Self {
         Work([vec![0; 4 * pair.pixels()], vec![0; 4 * pair.pixels()]])
     }
+
+    /// The picture that a job of one layer leaves.
+    pub fn picture(&self) -> &[u32] {
+        &self.0[1]
+    }
 }
 
-/// The library's job call, from mark 0 to the end.
+/// The library's job call, from a mark to the end.
 pub struct Ours<'a> {
     pub pair: &'a Pair,
     pub stack: Stack,
     pub work: &'a mut Work,
+    pub from: u64,
 }
 
 impl Side for Ours<'_> {
     fn compose(&mut self) {
         let [work0, work1] = &mut self.work.0;
         let inputs = self.pair.inputs(&self.stack);
-        let done = tray::job(black_box(&inputs), u64::MAX, Memory { work0, work1, mark: &mut [0] });
+        let done = tray::job(black_box(&inputs), u64::MAX, Memory { work0, work1, mark: &mut [self.from] });
         assert!(done.expect("no fault").finished);
     }
 }
@@ -62,11 +68,11 @@ pub type Ratios = [f64; 1 + others::COUNT];
 /// end and not in the middle. The shortest times of each side may be those of different moments, and would favour the
 /// side with more luck. The results are compared first; with this every side's memory has been used before it is timed.
 pub fn measured(pair: &Pair, images: &[FloatImage; 2], work: &mut Work, operator: usize, with_others: bool) -> Ratios {
-    let mut ours = Ours { pair, stack: pair.stack(operator), work };
+    let mut ours = Ours { pair, stack: pair.stack(operator), work, from: 0 };
     let mut rust = Rust { composite: composite(operator), images };
     ours.compose();
     let same = |(word, value): (&u32, &f32)| *word == value.to_bits() || *word == NAN && value.is_nan();
-    let equal = ours.work.0[1].iter().zip(rust.result().samples()).all(same);
+    let equal = ours.work.picture().iter().zip(rust.result().samples()).all(same);
     assert!(equal, "{}: another result", rust.composite.op.name());
     let wanted = |library| if with_others { Composition::new(library, pair, operator) } else { None };
     let mut others = others::LIBRARIES.map(wanted);

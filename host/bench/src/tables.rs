@@ -80,7 +80,7 @@ pub fn stacks(sides: &[usize]) {
         let pixels = pair.pixels();
         let layer = |k: usize| Layer::new(LAYERS[k % 8], pair.source());
         let stack = Stack::new(&(0..16).map(layer).collect::<Vec<_>>());
-        let mut ours = Ours { pair: &pair, stack, work: &mut Work::new(&pair) };
+        let mut ours = Ours { pair: &pair, stack, work: &mut Work::new(&pair), from: 0 };
         let time = median(turns(16 * pixels, [Some(&mut ours)]).iter().map(|[time]| *time));
         println!("| {side} | {pixels} | {:.2} | {:.2} |", time * 1e3, time * 1e9 / (16 * pixels) as f64);
     }

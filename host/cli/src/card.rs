@@ -22,7 +22,9 @@ A card has one form a line, single spaces, and a line feed after each line, the 
           then right and down, in pixels
   flags   the sum of 1 tile, 2 overlay, 4 red, 8 green, 16 blue, 32 alpha
   source  its first sample, counted from 0; then its width, height and channels
-  args    none to four arguments, each as the eight hexadecimal digits of its bits (3f000000 is 0.5)";
+  args    none to four arguments, each as the eight hexadecimal digits of its bits (3f000000 is 0.5)
+
+A card has no windows: its layers may write everywhere, and a job with a layer that may not has no card.";
 
 #[derive(Subcommand)]
 pub enum CardAction {
@@ -68,7 +70,7 @@ fn check(path: &Path) -> Result<Exit> {
 fn print(job: &Path) -> Result<Exit> {
     let folder = Folder::open(job)?;
     let [width, height, channels] = [folder.width(), folder.height(), folder.channels()].map(|n| n as i64);
-    let stack = Stack { table: folder.table()?.list().to_vec(), args: folder.args()?.list().to_vec() };
+    let stack = Stack { table: folder.table()?, args: folder.args()?.list().to_vec() };
     let card = Card { width, height, channels, stack };
     let text = card.to_text().with_context(|| format!("{}: no card says this job", job.display()))?;
     say(text.trim_end_matches('\n'))?;

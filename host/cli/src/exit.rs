@@ -5,7 +5,7 @@ use anyhow::{Error, Result};
 use clap::Parser;
 use std::fmt;
 use std::process::ExitCode;
-use tray::{CardFault, Fault, Refusal};
+use tray::{CardFault, Fault, NoCard, Refusal};
 
 /// The exit codes.
 #[derive(Clone, Copy, Debug, PartialEq, Eq)]
@@ -40,6 +40,7 @@ impl Exit {
         let refused = error.is::<Fault>()
             || error.is::<Refusal>()
             || error.is::<CardFault>()
+            || matches!(error.downcast_ref(), Some(NoCard::Form(_)))
             || matches!(error.downcast_ref(), Some(tray::Error::<Fault>::Refused(_)))
             || matches!(error.downcast_ref(), Some(tray::Error::<Refusal>::Refused(_)));
         match (error.downcast_ref::<Ended>(), error.downcast_ref()) {
@@ -110,6 +111,9 @@ mod tests {
         assert_eq!(Exit::of(&refused.unwrap_err()), Exit::Refused);
         assert_eq!(Exit::of(&Error::new(Fault::Operator).context("shiny")), Exit::Refused);
         assert_eq!(Exit::of(&Error::new(CardFault { line: 3 }).context("job.card")), Exit::Refused);
+        let no_card = NoCard::Window { layer: 0, window: tray::Window { width: 1, ..tray::Window::FULL } };
+        assert_eq!(Exit::of(&Error::new(no_card).context("job")), Exit::Other);
+        assert_eq!(Exit::of(&Error::new(NoCard::from(CardFault { line: 3 }))), Exit::Refused);
         assert_eq!(Exit::of(&environment.into()), Exit::Other);
         assert_eq!(Exit::of(&busy), Exit::Busy);
         assert_eq!(Exit::of(&tray_folder::Error::Busy("job".into()).into()), Exit::Busy);

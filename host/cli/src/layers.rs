@@ -1,14 +1,16 @@
 //! A layer as a line of text:
 //!
-//!     OPERATOR PICTURE [at=RIGHT,DOWN] [gravity=NAME] [channels=rgba] [args=A,B,..] [tile] [overlay]
+//!     OPERATOR PICTURE [at=RIGHT,DOWN] [gravity=NAME] [channels=rgba] [args=A,B,..] [window=LEFT,TOP,WIDTH,HEIGHT] [tile]
+//!         [overlay]
 //!
-//! The operator is any name that the library knows, such as over or soft-light. `channels` are the ones written. A word
-//! with spaces in it, such as a picture's name, stands between quotation marks: "well 7.png".
+//! The operator is any name that the library knows, such as over or soft-light. `channels` are the ones written; `window` has the
+//! destination's pixels that may be. A word with spaces in it, such as a picture's name, stands between quotation marks:
+//! "well 7.png".
 
 use anyhow::{bail, ensure, Context, Result};
 use std::path::PathBuf;
 use std::str::FromStr;
-use tray::{Layer, Operator, Source, ARGUMENTS};
+use tray::{Layer, Operator, Source, Window, ARGUMENTS};
 
 /// A layer, its operator as it was spelled, and the file of its source.
 #[derive(Debug, PartialEq)]
@@ -20,7 +22,8 @@ pub struct Line {
     pub place: String,
 }
 
-const OPTIONS: &str = "at=RIGHT,DOWN, gravity=NAME, channels=rgba, args=A,B, tile and overlay";
+const OPTIONS: &str =
+    "at=RIGHT,DOWN, gravity=NAME, channels=rgba, args=A,B, window=LEFT,TOP,WIDTH,HEIGHT, tile and overlay";
 
 /// The words of a line, those in quotation marks without them.
 fn words(line: &str) -> Result<Vec<&str>> {
@@ -67,6 +70,10 @@ fn option(layer: &mut Layer, word: &str) -> Result<()> {
         Some(("gravity", name)) => layer.gravity = name.parse()?,
         Some(("channels", letters)) => layer.flags.channels = channels(letters)?,
         Some(("args", list)) => layer.arguments = numbers(list)?,
+        Some(("window", list)) => match numbers(list)?[..] {
+            [left, top, width, height] => layer.window = Window { left, top, width, height },
+            _ => bail!("window has four numbers: left,top,width,height"),
+        },
         _ => bail!("`{word}` is no option of a layer; there are {OPTIONS}"),
     }
     Ok(())
@@ -108,12 +115,15 @@ mod tests {
 
     #[test]
     fn a_whole_line() {
-        let line = read("Soft-Light a.png at=3,-2 gravity=centre channels=rb args=0.5,2 tile").unwrap();
+        let line =
+            read("Soft-Light a.png at=3,-2 gravity=centre channels=rb args=0.5,2 window=4,0,2048,7 tile").unwrap();
         assert_eq!(line.picture, PathBuf::from("a.png"));
         let Layer { operator, offset, gravity, .. } = line.layer;
         assert_eq!((operator, offset, gravity), (Operator::SoftLight, (3, -2), Gravity::Centre));
         assert_eq!(line.layer.flags, Flags { tile: true, overlay: false, channels: [true, false, true, false] });
         assert_eq!(line.layer.arguments, [0.5, 2.0]);
+        assert_eq!(line.layer.window, Window { left: 4, top: 0, width: 2048, height: 7 });
+        assert_eq!(read("over a.png").unwrap().layer.window, Window::FULL);
     }
 
     #[test]
@@ -139,6 +149,10 @@ mod tests {
             ("nothing a.png", "nothing: refused: 3 OPERATOR: no such operator"),
             ("over a.png at=1", "at has two numbers: right,down"),
             ("over a.png at=x,y", "`x` is no number here"),
+            ("over a.png window=1,2,3", "window has four numbers: left,top,width,height"),
+            ("over a.png window=1,2,3,4,5", "window has four numbers: left,top,width,height"),
+            ("over a.png window=", "window has four numbers: left,top,width,height"),
+            ("over a.png window=1,2,3,4.5", "`4.5` is no number here"),
             ("over a.png at=1,,2", "`` is no number here"),
             ("over a.png args=1,", "`` is no number here"),
             ("over a.png args=1,2,3,4,5", "refused: 8 ARGUMENTS: a layer has 0 to 4 arguments"),
@@ -157,7 +171,7 @@ mod tests {
 
     #[test]
     fn options_given_twice() {
-        for word in ["at=1,2", "gravity=east", "channels=r", "args=1", "tile", "overlay"] {
+        for word in ["at=1,2", "gravity=east", "channels=r", "args=1", "window=1,2,3,4", "tile", "overlay"] {
             let name = word.split('=').next().unwrap();
             assert_eq!(said(&format!("over a.png {word} {word}")), format!("{name} is given twice"));
         }

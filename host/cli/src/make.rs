@@ -25,13 +25,13 @@ pub struct Make {
     /// The destination: the picture of a finished job, with all its bits
     #[arg(long, value_name = "JOB", conflicts_with = "tray")]
     on: Option<PathBuf>,
-    /// A layer, lowest first: 'OPERATOR PICTURE [at=RIGHT,DOWN] [gravity=NAME] [channels=rgba] [args=A,B] [tile] [overlay]'; a name with spaces stands between quotation marks. Errors count these from 1, as lines of a file; the job's layers are counted from 0, as the library counts them
+    /// A layer, lowest first: 'OPERATOR PICTURE [at=RIGHT,DOWN] [gravity=NAME] [channels=rgba] [args=A,B] [window=LEFT,TOP,WIDTH,HEIGHT] [tile] [overlay]'; a name with spaces stands between quotation marks. Off its window, which is in the destination's pixels, a layer leaves everything as it is; without one it may write everywhere. Errors count these from 1, as lines of a file; the job's layers are counted from 0, as the library counts them
     #[arg(long = "layer", value_name = "LINE")]
     layer: Vec<String>,
     /// A file with a layer a line, as for --layer and after those; pictures are looked for beside it; lines that begin with # are notes, blank lines nothing
     #[arg(long, value_name = "FILE")]
     layers: Option<PathBuf>,
-    /// The layers: a card, which `tray card --help` describes. The destination has the card's sides and channels, and its sources lie in --samples
+    /// The layers: a card, which `tray card --help` describes. The destination has the card's sides and channels, and its sources lie in --samples. Its layers have no windows, and may write everywhere
     #[arg(long, value_name = "FILE", conflicts_with_all = ["layer", "layers"])]
     card: Option<PathBuf>,
     /// The samples of a card's sources: .png or .pfm pictures, row by row, or .raw, the words alone, low byte first; several follow each other in this order

@@ -3,6 +3,7 @@
 use anyhow::Result;
 use clap::Args;
 use std::path::PathBuf;
+use tray::Window;
 use tray_cli::exit::Exit;
 use tray_cli::say::{count, say, sides};
 use tray_folder::Folder;
@@ -11,7 +12,7 @@ use tray_folder::Folder;
 pub struct Status {
     /// The job's folder
     job: PathBuf,
-    /// One line of JSON: folder, width, height, channels, layers, mark, total, finished, worker; and phase (0 is the destination's, the last one a finished job's), layer (from 0, null in phase 0), pixels (written in this phase)
+    /// One line of JSON: folder, width, height, channels, layers, mark, total, finished, worker; and phase (0 is the destination's, the last one a finished job's), layer (from 0, null in phase 0), pixels (written in this phase), windows (of each layer left, top, width and height; 0, 0, 2048, 2048 is the full one)
     #[arg(long)]
     json: bool,
 }
@@ -22,7 +23,7 @@ impl Status {
         // A worker may go on meanwhile: what is finished stays so, and the mark only rises.
         let (finished, mark) = (folder.is_finished()?, folder.position()?);
         let state = State { mark, finished, worker: folder.has_worker()? };
-        say(if self.json { json(&folder, &state) } else { words(&folder, &state)? })?;
+        say(if self.json { json(&folder, &state)? } else { words(&folder, &state)? + &windows(&folder)? })?;
         Ok(Exit::Done)
     }
 }
@@ -58,16 +59,24 @@ fn place(folder: &Folder, state: &State) -> Result<String> {
         _ if state.finished => "finished".to_string(),
         _ if state.mark == folder.total() => "written, and not stored yet (`tray run` does it)".to_string(),
         0 => format!("the destination, {pixels} of {of}"),
-        k => {
-            let names = folder.names()?;
-            let name = names.get(k as usize - 1).map_or("", String::as_str);
-            format!("layer {} ({name}), {pixels} of {of}", k - 1)
-        }
+        k => format!("{}, {pixels} of {of}", named(folder, k as usize - 1)?),
     })
 }
 
+/// A layer by its number, and by its line of text.
+fn named(folder: &Folder, layer: usize) -> Result<String> {
+    let names = folder.names()?;
+    Ok(format!("layer {layer} ({})", names.get(layer).map_or("", String::as_str)))
+}
+
+/// A line for each layer whose window is not the full one.
+fn windows(folder: &Folder) -> Result<String> {
+    let cut = folder.windows()?.into_iter().enumerate().filter(|(_, window)| *window != Window::FULL);
+    cut.map(|(layer, window)| Ok(format!("\n{}: window={window}", named(folder, layer)?))).collect()
+}
+
 /// What a program reads. A finished job has its last phase whole.
-fn json(folder: &Folder, state: &State) -> String {
+fn json(folder: &Folder, state: &State) -> Result<String> {
     let State { mark, finished, worker } = *state;
     let (width, height, channels, layers) = (folder.width(), folder.height(), folder.channels(), folder.layers());
     let total = folder.total();
@@ -77,11 +86,13 @@ fn json(folder: &Folder, state: &State) -> String {
     };
     let layer = phase.checked_sub(1).map_or("null".to_string(), |layer| layer.to_string());
     let path = quoted(&folder.path().to_string_lossy());
-    format!(
+    let windows: Vec<String> = folder.windows()?.iter().map(|window| format!("[{window}]")).collect();
+    let windows = windows.join(",");
+    Ok(format!(
         "{{\"folder\":{path},\"width\":{width},\"height\":{height},\"channels\":{channels},\"layers\":{layers},\
         \"mark\":{mark},\"total\":{total},\"finished\":{finished},\"worker\":{worker},\
-        \"phase\":{phase},\"layer\":{layer},\"pixels\":{pixels}}}"
-    )
+        \"phase\":{phase},\"layer\":{layer},\"pixels\":{pixels},\"windows\":[{windows}]}}"
+    ))
 }
 
 /// A text as JSON has it.

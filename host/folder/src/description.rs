@@ -1,7 +1,7 @@
 //! The file `job`: a job's numbers, and a digest of each of its inputs as it was made. An example:
 //!
 //! ```text
-//! tray-job-2 100 80 4 5 32000
+//! tray-job-3 100 80 4 5 32000
 //! dst b188ea0fda1fb783
 //! table 75de40470c0e9ec4
 //! args 2beef07ef789fc9c
@@ -10,17 +10,71 @@
 //! ```
 //!
 //! The numbers are width, height, channels, layers, samples; the last line's digest is of the lines before it.
+//!
+//! A folder of edition 2 was made when layers had no windows: its table has ten numbers a layer, and all else is the same. It is
+//! taken over with full windows, with which the library makes the same pictures (`full-held` and `pictures-unwindowed`,
+//! crates/job/proofs/Windows.antt), so that its mark and its checkpoint keep their meaning. It stays of its edition and none of its
+//! inputs is rewritten: a loss of power never finds it half taken over, and the digests, which are of the files as they are, hold.
 
 use crate::digest::digest;
-use tray::{Inputs, LAYERS, SIDE};
+use tray::{Inputs, COLUMNS, LAYERS, SIDE};
 
-const EDITION: &str = "tray-job-2";
+/// The window of a layer that was made when there were none: all pixels of any destination that there could be then.
+const FULL: [i64; 4] = [0, 0, 2048, 2048];
+
+/// The editions that are read; a new job is of the last one.
+#[derive(Clone, Copy, Debug, PartialEq)]
+pub enum Edition {
+    WithoutWindows,
+    Windows,
+}
+
+impl Edition {
+    const ALL: [Edition; 2] = [Edition::WithoutWindows, Edition::Windows];
+
+    /// The first word of the description.
+    fn word(self) -> &'static str {
+        match self {
+            Edition::WithoutWindows => "tray-job-2",
+            Edition::Windows => "tray-job-3",
+        }
+    }
+
+    /// Numbers a layer in the file `table`.
+    pub fn columns(self) -> usize {
+        match self {
+            Edition::WithoutWindows => 10,
+            Edition::Windows => COLUMNS,
+        }
+    }
+
+    /// The library's row of a layer's numbers in the file.
+    pub fn row(self, kept: &[i64]) -> Vec<i64> {
+        match self {
+            Edition::WithoutWindows => [kept, &FULL].concat(),
+            Edition::Windows => kept.to_vec(),
+        }
+    }
+
+    /// The edition of this word; otherwise what is wrong with it.
+    fn parse(word: &str) -> Result<Self, String> {
+        let known = Edition::ALL.into_iter().find(|edition| edition.word() == word);
+        let all = Edition::ALL.map(Edition::word).join(" or ");
+        known.ok_or_else(|| match word.starts_with("tray-job-") {
+            true => format!(
+                "a job of edition {word}, and this is for {all}: finish it with the version of tray that made it"
+            ),
+            false => format!("not a job of edition {all}"),
+        })
+    }
+}
 
 /// The inputs' files, in the order of their digests.
 pub const INPUTS: [&str; 4] = ["dst", "table", "args", "samples"];
 
 #[derive(Clone, Debug, PartialEq)]
 pub struct Description {
+    pub edition: Edition,
     pub width: usize,
     pub height: usize,
     pub channels: usize,
@@ -30,18 +84,18 @@ pub struct Description {
 }
 
 impl Description {
-    /// Of inputs that the library has accepted.
+    /// Of a new job, whose inputs the library has accepted.
     pub fn new(inputs: &Inputs, digests: [u64; INPUTS.len()]) -> Self {
         let number = |n: i64| n as usize;
         let Inputs { width, height, channels, layers, samples, .. } = *inputs;
         let samples = samples.len();
         let [width, height, channels, layers] = [width, height, channels, layers].map(number);
-        Description { width, height, channels, layers, samples, digests }
+        Description { edition: Edition::Windows, width, height, channels, layers, samples, digests }
     }
 
     pub fn text(&self) -> String {
-        let Description { width, height, channels, layers, samples, digests } = self;
-        let mut text = format!("{EDITION} {width} {height} {channels} {layers} {samples}\n");
+        let Description { edition, width, height, channels, layers, samples, digests } = self;
+        let mut text = format!("{} {width} {height} {channels} {layers} {samples}\n", edition.word());
         for (name, digest) in INPUTS.iter().zip(digests) {
             text += &format!("{name} {digest:016x}\n");
         }
@@ -53,13 +107,7 @@ impl Description {
     pub fn parse(text: &str) -> Result<Self, String> {
         let mut lines = text.lines();
         let mut words = lines.next().unwrap_or("").split_ascii_whitespace();
-        match words.next() {
-            Some(EDITION) => (),
-            Some(other) if other.starts_with("tray-job-") => {
-                return Err(format!("a job of edition {other}, and this is for {EDITION}: finish it with the version of tray that made it"));
-            }
-            _ => return Err(format!("not a job of edition {EDITION}")),
-        }
+        let edition = Edition::parse(words.next().unwrap_or(""))?;
         let numbers: Vec<usize> = words.map(str::parse).collect::<Result<_, _>>().unwrap_or_default();
         let hex = |line: &str| u64::from_str_radix(line.split(' ').nth(1)?, 16).ok();
         let digests: Vec<u64> = lines.take(INPUTS.len()).map_while(hex).collect();
@@ -69,7 +117,7 @@ impl Description {
                     && [1, 3, 4].contains(&channels)
                     && (1..=LAYERS).contains(&layers) =>
             {
-                let read = Description { width, height, channels, layers, samples, digests };
+                let read = Description { edition, width, height, channels, layers, samples, digests };
                 // Whatever else has changed in it is told by its own digest.
                 if read.text() == text {
                     Ok(read)
@@ -88,23 +136,42 @@ const DAMAGED: &str = "damaged: it has not the numbers and digests of a job as t
 mod tests {
     use super::*;
 
+    /// The numbers of a job with the most layers.
+    fn job(edition: Edition) -> Description {
+        let digests = [0, 1, u64::MAX, 3];
+        Description { edition, width: 7, height: 2048, channels: 3, layers: 16, samples: 12, digests }
+    }
+
+    /// The edition's number too: its last bit makes one of the two into the other.
     #[test]
     fn there_and_back_and_each_byte_counts() {
-        let job =
-            Description { width: 7, height: 2048, channels: 3, layers: 16, samples: 12, digests: [0, 1, u64::MAX, 3] };
-        let text = job.text();
-        assert_eq!(Description::parse(&text), Ok(job));
-        for n in 0..text.len() {
-            let mut bytes = text.clone().into_bytes();
-            bytes[n] ^= 1;
-            assert!(Description::parse(&String::from_utf8(bytes).unwrap()).is_err(), "byte {n}");
-            assert!(Description::parse(&text[..n]).is_err(), "length {n}");
+        for edition in Edition::ALL {
+            let text = job(edition).text();
+            assert_eq!(Description::parse(&text), Ok(job(edition)));
+            for n in 0..text.len() {
+                let mut bytes = text.clone().into_bytes();
+                bytes[n] ^= 1;
+                assert!(Description::parse(&String::from_utf8(bytes).unwrap()).is_err(), "byte {n}");
+                assert!(Description::parse(&text[..n]).is_err(), "length {n}");
+            }
         }
     }
 
     #[test]
-    fn an_older_edition_is_told() {
-        let said = Description::parse("tray-job-1 1 1 4 1 4\n").unwrap_err();
-        assert!(said.starts_with("a job of edition tray-job-1, "), "{said}");
+    fn another_edition_is_told() {
+        for other in ["tray-job-1", "tray-job-4", "tray-job-"] {
+            let said = Description::parse(&job(Edition::Windows).text().replace("tray-job-3", other)).unwrap_err();
+            let wanted = format!("a job of edition {other}, and this is for tray-job-2 or tray-job-3: ");
+            assert!(said.starts_with(&wanted), "{said}");
+        }
+    }
+
+    #[test]
+    fn rows_without_windows_get_the_full_one() {
+        let row: Vec<i64> = (0..10).collect();
+        assert_eq!(Edition::WithoutWindows.row(&row), [0, 1, 2, 3, 4, 5, 6, 7, 8, 9, 0, 0, 2048, 2048]);
+        let row: Vec<i64> = (0..14).collect();
+        assert_eq!(Edition::Windows.row(&row), row);
+        assert_eq!(Edition::ALL.map(Edition::columns), [10, COLUMNS]);
     }
 }

@@ -15,7 +15,7 @@ use std::io::ErrorKind;
 use std::os::unix::fs::MetadataExt;
 use std::path::{Path, PathBuf};
 use std::{thread, time::Duration};
-use tray::{Fault, Inputs, Memory, Refusal, ARGUMENTS, COLUMNS};
+use tray::{Fault, Inputs, Memory, Refusal, Window, ARGUMENTS, COLUMNS};
 
 pub(crate) const WORK: [&str; 2] = ["work0", "work1"];
 pub(crate) const MARK: &str = "mark";
@@ -236,9 +236,17 @@ impl Folder {
         self.input(0, self.pixels() * self.job.channels)
     }
 
-    /// The layers' numbers, as [`Inputs::table`] has them.
-    pub fn table(&self) -> Result<List<i64>> {
-        self.input(1, self.job.layers * COLUMNS)
+    /// The layers' numbers, as [`Inputs::table`] has them. Those of a job that was made when layers had no windows have the
+    /// full one.
+    pub fn table(&self) -> Result<Vec<i64>> {
+        let edition = self.job.edition;
+        let kept: List<i64> = self.input(1, self.job.layers * edition.columns())?;
+        Ok(kept.list().chunks_exact(edition.columns()).flat_map(|row| edition.row(row)).collect())
+    }
+
+    /// Each layer's window.
+    pub fn windows(&self) -> Result<Vec<Window>> {
+        Ok(self.table()?.chunks_exact(COLUMNS).map(Window::of_row).collect())
     }
 
     /// The layers' arguments, as [`Inputs::args`] has them.

@@ -33,7 +33,7 @@ pub struct Worker {
     folder: Folder,
     durable: Durable,
     dst: List<u32>,
-    table: List<i64>,
+    table: Vec<i64>,
     args: List<u32>,
     samples: List<u32>,
     work: [List<u32>; 2],
@@ -125,7 +125,7 @@ impl Worker {
             channels: self.folder.channels() as i64,
             dst: self.dst.list(),
             layers: self.folder.layers() as i64,
-            table: self.table.list(),
+            table: &self.table,
             args: self.args.list(),
             samples: self.samples.list(),
         };

@@ -8,7 +8,7 @@ use std::path::{Path, PathBuf};
 use std::sync::atomic::{AtomicUsize, Ordering};
 use std::thread;
 use std::time::Duration;
-use tray::{Inputs, Layer, Source, Stack};
+use tray::{Inputs, Layer, Source, Stack, Window};
 use tray_folder::{Durable, Error, Folder, TakenUp, Worker};
 
 const WIDTH: usize = 20;
@@ -19,6 +19,9 @@ const TOTAL: u64 = (LAYERS as u64 + 1) * PIXELS;
 
 /// Marks within phases, at their ends and beside them.
 const MARKS: [u64; 9] = [0, 1, PIXELS - 1, PIXELS, PIXELS + 1, 2 * PIXELS + 99, 3 * PIXELS, TOTAL - 1, TOTAL];
+
+/// The windows of a job's layers.
+const WINDOWS: [Window; LAYERS] = [Window::FULL, Window { left: 3, top: 2, width: 9, height: 7 }, Window::FULL];
 
 /// A new folder for one test's jobs.
 fn room(name: &str) -> PathBuf {
@@ -34,11 +37,17 @@ fn make(path: &Path) -> Folder {
 
 /// A job whose layers lie so many pixels further down.
 fn make_with(path: &Path, down: i64) -> Folder {
+    make_within(path, down, WINDOWS)
+}
+
+fn make_within(path: &Path, down: i64, windows: [Window; LAYERS]) -> Folder {
     let words: Vec<u32> = (0..4 * WIDTH * HEIGHT).map(|n| ((n * 7919 % 1000) as f32 / 1000.0).to_bits()).collect();
     let source = Source { first: 0, width: WIDTH as i64, height: HEIGHT as i64, channels: 4 };
-    let layer =
-        |name: &str| Layer { offset: (1, down), ..Layer::new(tray::from_name(name.as_bytes()).unwrap(), source) };
-    let stack = Stack::new(&["over", "plus", "xor"].map(layer));
+    let mut layers = ["over", "plus", "xor"].map(|name| Layer::new(name.parse().unwrap(), source));
+    for (layer, window) in layers.iter_mut().zip(windows) {
+        (layer.offset, layer.window) = ((1, down), window);
+    }
+    let stack = Stack::new(&layers);
     let inputs = Inputs {
         width: WIDTH as i64,
         height: HEIGHT as i64,
@@ -239,8 +248,10 @@ fn changed_inputs() {
 fn inputs_as_they_were_given() {
     let folder = make_with(&room("given").join("job"), 7);
     let table = folder.table().unwrap();
-    let rows: Vec<&[i64]> = table.list().chunks(tray::COLUMNS).collect();
-    assert_eq!(rows[2], [4, 0, 1, 7, 60, 0, WIDTH as i64, HEIGHT as i64, 4, 0]);
+    let rows: Vec<&[i64]> = table.chunks(tray::COLUMNS).collect();
+    assert_eq!(rows[1], [5, 0, 1, 7, 60, 0, WIDTH as i64, HEIGHT as i64, 4, 0, 3, 2, 9, 7]);
+    assert_eq!(rows[2], [4, 0, 1, 7, 60, 0, WIDTH as i64, HEIGHT as i64, 4, 0, 0, 0, 2048, 2048]);
+    assert_eq!(folder.windows().unwrap(), WINDOWS);
     assert_eq!((rows.len(), folder.args().unwrap().list()), (LAYERS, &[0; LAYERS * tray::ARGUMENTS][..]));
     assert_eq!(folder.samples().unwrap().list(), folder.dst().unwrap().list());
     assert_eq!(folder.dst().unwrap().list().len() as u64, 4 * PIXELS);
@@ -388,7 +399,7 @@ fn a_damaged_description() {
         assert!(said.starts_with(&format!("{}: damaged: ", path.join("job").display())), "{said}");
     }
     fs::write(path.join("job"), b"\xff\xfe").unwrap();
-    assert!(says(Folder::open(&path)).ends_with(": not a job of edition tray-job-2"));
+    assert!(says(Folder::open(&path)).ends_with(": not a job of edition tray-job-2 or tray-job-3"));
     fs::remove_file(path.join("job")).unwrap();
     fs::create_dir(path.join("job")).unwrap();
     assert!(says(Folder::open(&path)).ends_with("job: a job's file is a regular one with no other name, and no link"));
@@ -473,4 +484,83 @@ fn a_folder_that_exists_and_what_killed_makers_leave() {
     assert!(says(Folder::create(&room.join(".tray-1-2"), &empty, &[])).contains("a name of jobs that are being made"));
     let folder = Folder::create(&room.join("new/folders/empty"), &empty, &[]).unwrap();
     assert!(finish(&folder).is_empty());
+}
+
+/// What the crate of edition 2 wrote of `make`'s job when layers had no windows: its description, and the checkpoints of workers
+/// that stopped within the first layer and at the end.
+const OLD_JOB: &str = "\
+tray-job-2 20 13 4 3 1040
+dst 72fb0517f1c1b2c2
+table 4ddf22db5bf1bc13
+args 7869c3727bf8a6ec
+samples 72fb0517f1c1b2c2
+job a4497f6e64885f4f
+";
+const OLD_CHECKPOINTS: [(u64, &str); 2] =
+    [(PIXELS + 99, "tray-checkpoint-1 359 df721f0d14d84026\n"), (TOTAL, "tray-checkpoint-1 1040 d9fc1feaf2d8f9bc\n")];
+
+/// The same job as a folder of edition 2, stopped at this mark. The pictures are this library's, and the digests that they must
+/// have are of the pictures of the library without windows.
+fn old(path: &Path, mark: u64) -> Folder {
+    let folder = make_within(path, 2, [Window::FULL; LAYERS]);
+    let mut first = worker(&folder, Durable::Phase);
+    go_on(&mut first, mark);
+    first.stop().unwrap();
+    let rows = folder.table().unwrap();
+    let ten = rows.chunks(tray::COLUMNS).flat_map(|row| &row[..10]).flat_map(|number| number.to_le_bytes());
+    fs::write(path.join("table"), ten.collect::<Vec<u8>>()).unwrap();
+    fs::write(path.join("job"), OLD_JOB).unwrap();
+    if let Some((_, checkpoint)) = OLD_CHECKPOINTS.iter().find(|(at, _)| *at == mark) {
+        fs::write(path.join("checkpoint"), checkpoint).unwrap();
+    }
+    fs::remove_file(path.join("held")).unwrap();
+    Folder::open(path).unwrap()
+}
+
+/// A job from before there were windows is taken over at its mark, with full windows, and stays of its edition.
+#[test]
+fn a_job_from_before_windows() {
+    let room = room("edition2");
+    let new = make_within(&room.join("new"), 2, [Window::FULL; LAYERS]);
+    let whole = finish(&new);
+    assert_ne!(finish(&make(&room.join("cut"))), whole, "no window cuts");
+    for mark in [0, PIXELS + 99, TOTAL] {
+        let folder = old(&room.join(format!("job{mark}")), mark);
+        let given = |name: &str| fs::read(folder.path().join(name)).unwrap();
+        let before = ["job", "table", "dst", "args", "samples", "names"].map(given);
+        assert_eq!((folder.position().unwrap(), folder.is_finished().unwrap()), (mark, mark == TOTAL));
+        assert_eq!(folder.table().unwrap(), new.table().unwrap());
+        assert_eq!(folder.windows().unwrap(), [Window::FULL; LAYERS]);
+        // A worker that is gone, another boot, one to the end.
+        go_on(&mut worker(&folder, Durable::Phase), 2 * PIXELS + 7);
+        another_boot(&folder);
+        assert_eq!(finish(&folder), whole, "mark {mark}");
+        assert_eq!(["job", "table", "dst", "args", "samples", "names"].map(given), before, "mark {mark}");
+        // The end is stored as the older crate stores it, so that it can read it.
+        assert_eq!(String::from_utf8(given("checkpoint")).unwrap(), OLD_CHECKPOINTS[1].1);
+    }
+}
+
+/// A table that has not the length of its folder's edition is refused, and so is one that has changed.
+#[test]
+fn tables_of_another_edition() {
+    let room = room("tables");
+    let (new, old) = (make_within(&room.join("new"), 2, [Window::FULL; LAYERS]), old(&room.join("old"), 0));
+    let (long, short) = (new.path().join("table"), old.path().join("table"));
+    let (fourteen, ten) = (fs::read(&long).unwrap(), fs::read(&short).unwrap());
+    fs::write(&long, &ten).unwrap();
+    fs::write(&short, &fourteen).unwrap();
+    for (folder, path, what) in [(&new, &long, "has 240 bytes, not 336"), (&old, &short, "has 336 bytes, not 240")] {
+        let said = format!("{}: {what}", path.display());
+        assert_eq!(says(folder.table()), said);
+        assert_eq!(says(folder.windows()), said);
+        assert_eq!(says(Worker::new(folder, folder.lock(false).unwrap(), Durable::Phase)), said);
+    }
+    fs::write(&short, &ten).unwrap();
+    change_byte(&short, 100);
+    assert!(says(old.table()).ends_with("changed since the job was made; a job's inputs stay the same"));
+    // The edition's number alone makes no folder one of the other edition.
+    let path = old.path().join("job");
+    fs::write(&path, OLD_JOB.replacen("tray-job-2", "tray-job-3", 1)).unwrap();
+    assert!(says(Folder::open(old.path())).starts_with(&format!("{}: damaged: ", path.display())));
 }

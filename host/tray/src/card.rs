@@ -1,12 +1,13 @@
 //! A job as text, which people keep and edit. The library reads it; what is printed here counts only if the library reads
 //! the same in it.
 
-use crate::fault::{CardFault, Error, Fault, Refusal};
+use crate::fault::{CardFault, Error, Fault, NoCard, Refusal};
 use crate::job::job;
 use crate::layer::{Inputs, Layer, Stack, ARGUMENTS, COLUMNS, LAYERS, SIDE};
 use crate::memory::Memory;
 use crate::operator::Operator;
 use crate::raw::{self, CardAnswers};
+use crate::window::Window;
 use std::str::FromStr;
 
 /// A card: a job as text, without its samples. One form a line, each line ended by a line feed:
@@ -18,7 +19,8 @@ use std::str::FromStr;
 ///
 /// The first line has the edition, which is 1, and the destination's width, height and channels. Then each layer has one, the
 /// lowest first: its operator, by a name or an alias in small letters; gravity, right and down; flags; its source's start in
-/// the samples, width, height and channels; and the bits of its arguments. include/tray.h has the form in full.
+/// the samples, width, height and channels; and the bits of its arguments. include/tray.h has the form in full. It has no windows:
+/// each layer that is read has the full one, and a job with any other is not printed.
 ///
 /// The numbers are the card's own, whether a job takes them or not: [`Card::check`] asks that, and so does each call.
 ///
@@ -64,16 +66,21 @@ impl Card {
 
     /// Its text, in which the library has read this very card. A card that no text says is refused with the first line that
     /// would be wrong: a number of more than ten digits, an operator without a name, more than four arguments, a layer too
-    /// many. Arguments that do not count, which no call reads, are left out.
-    pub fn to_text(&self) -> Result<String, CardFault> {
+    /// many. So is a layer whose window is not [`Window::FULL`], even where it holds all pixels of this destination, since
+    /// another is read back. Arguments that do not count, which no call reads, are left out.
+    pub fn to_text(&self) -> Result<String, NoCard> {
         if !self.stack.is_whole() {
-            return Err(CardFault { line: 0 });
+            return Err(CardFault { line: 0 }.into());
+        }
+        let windows = self.stack.rows().map(|(row, _)| Window::of_row(row));
+        if let Some((layer, window)) = (0..).zip(windows).find(|(_, window)| *window != Window::FULL) {
+            return Err(NoCard::Window { layer, window });
         }
         let mut text = format!("(tray 1 {} {} {})\n", self.width, self.height, self.channels);
         text.extend(self.stack.rows().map(layer_line));
         match self.first_difference(&Card::read(text.as_bytes())?) {
             None => Ok(text),
-            Some(line) => Err(CardFault { line }),
+            Some(line) => Err(CardFault { line }.into()),
         }
     }
 

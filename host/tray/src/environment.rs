@@ -32,8 +32,8 @@ impl fmt::Display for Environment {
 impl Error for Environment {}
 
 /// One pixel on another by Plus, all channels written: the operator, gravity, offsets, flags, then the source's
-/// start, sides and channels, and no argument.
-const PLUS: [i64; COLUMNS] = [Operator::Plus as i64, 0, 0, 0, 60, 0, 1, 1, 4, 0];
+/// start, sides and channels, no argument, and a window of that pixel.
+const PLUS: [i64; COLUMNS] = [Operator::Plus as i64, 0, 0, 0, 60, 0, 1, 1, 4, 0, 0, 0, 1, 1];
 
 /// The words of 1, and of a half and the two floats after it, which lie 2^-24 apart.
 const ONE: u32 = 0x3f80_0000;

@@ -1,6 +1,7 @@
 //! Why a call is refused.
 
 use crate::environment::Environment;
+use crate::window::Window;
 use std::fmt;
 
 /// The refusals by their numbers.
@@ -30,11 +31,13 @@ pub enum Fault {
     Narrow = 11,
     /// A card with a line out of form or a layer too many.
     Card = 12,
+    /// A number of a layer's window that is not 0 to 2048.
+    Window = 13,
 }
 
 impl Fault {
     /// All faults, in the order of their numbers.
-    pub const ALL: [Fault; 12] = [
+    pub const ALL: [Fault; 13] = [
         Fault::Stack,
         Fault::Tray,
         Fault::Operator,
@@ -47,9 +50,10 @@ impl Fault {
         Fault::Mark,
         Fault::Narrow,
         Fault::Card,
+        Fault::Window,
     ];
 
-    /// The library's number, 1 to 12.
+    /// The library's number, 1 to 13.
     pub fn number(self) -> u64 {
         self as u64
     }
@@ -69,13 +73,14 @@ impl Fault {
             Fault::Mark => "MARK",
             Fault::Narrow => "NARROW",
             Fault::Card => "CARD",
+            Fault::Window => "WINDOW",
         }
     }
 
     /// What is wrong, in a few words.
     pub fn meaning(self) -> &'static str {
         match self {
-            Fault::Stack => "a job has 1 to 16 layers, 10 numbers and 4 arguments each",
+            Fault::Stack => "a job has 1 to 16 layers, 14 numbers and 4 arguments each",
             Fault::Tray => "sides are 0 to 2048, channels 1, 3 or 4, samples width x height x channels",
             Fault::Operator => "no such operator",
             Fault::Curve => "Interpolate and Blur are not carried",
@@ -87,19 +92,20 @@ impl Fault {
             Fault::Mark => "the mark is one number, at most (layers + 1) x width x height",
             Fault::Narrow => "1, 3 or 4 channels from whole pixels of four, into an output of that length",
             Fault::Card => "a line out of form, or a layer too many",
+            Fault::Window => "a window's left, top, width and height are 0 to 2048",
         }
     }
 
     /// Whether the fault belongs to one layer.
     pub fn has_layer(self) -> bool {
-        (3..=8).contains(&self.number())
+        (3..=8).contains(&self.number()) || self == Fault::Window
     }
 
     /// The library's answer: 0, or the number of a fault.
     pub(crate) fn check(number: u64) -> Result<(), Fault> {
         match number {
             0 => Ok(()),
-            n => Err(*Fault::ALL.get(n as usize - 1).expect("the library answers 0 to 12")),
+            n => Err(*Fault::ALL.get(n as usize - 1).expect("the library answers 0 to 13")),
         }
     }
 }
@@ -148,6 +154,39 @@ impl fmt::Display for CardFault {
 }
 
 impl std::error::Error for CardFault {}
+
+/// A job that no card says.
+#[derive(Clone, Copy, Debug, PartialEq, Eq)]
+pub enum NoCard {
+    /// The first line that would be out of form or a layer too many.
+    Form(CardFault),
+    /// A layer with another window than [`Window::FULL`], for which a card has no place.
+    Window {
+        /// The first such layer, counted from 0.
+        layer: u64,
+        /// Its window.
+        window: Window,
+    },
+}
+
+impl fmt::Display for NoCard {
+    fn fmt(&self, f: &mut fmt::Formatter) -> fmt::Result {
+        match self {
+            NoCard::Form(fault) => fault.fmt(f),
+            NoCard::Window { layer, window } => {
+                write!(f, "layer {layer} has the window {window}, and a card of edition 1 has no windows")
+            }
+        }
+    }
+}
+
+impl std::error::Error for NoCard {}
+
+impl From<CardFault> for NoCard {
+    fn from(fault: CardFault) -> Self {
+        NoCard::Form(fault)
+    }
+}
 
 /// Why a call that computes has written nothing: the library refused it, with R as its answer, or it was not called because
 /// of the thread's floating-point environment.

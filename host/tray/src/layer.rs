@@ -4,9 +4,10 @@ use crate::fault::Fault;
 use crate::gravity::Gravity;
 use crate::operator::Operator;
 use crate::raw::floats;
+use crate::window::Window;
 
 /// Numbers a layer in the table.
-pub const COLUMNS: usize = 10;
+pub const COLUMNS: usize = 14;
 
 /// Arguments a layer; fewer may count.
 pub const ARGUMENTS: usize = 4;
@@ -14,7 +15,7 @@ pub const ARGUMENTS: usize = 4;
 /// The most layers of a job.
 pub const LAYERS: usize = 16;
 
-/// The longest side of a destination or a source.
+/// The longest side of a destination or a source, and the largest number of a window.
 pub const SIDE: u64 = 2048;
 
 /// The largest offset, to either side.
@@ -98,10 +99,12 @@ pub struct Layer {
     pub source: Source,
     /// Those of [`Operator::arguments`], as many as are given. At most four are kept; the library refuses a layer with more.
     pub arguments: Vec<f32>,
+    /// The destination's pixels that may be written; the others keep their bits.
+    pub window: Window,
 }
 
 impl Layer {
-    /// A layer whose source lies at the destination's upper left corner.
+    /// A layer whose source lies at the destination's upper left corner, and which may write everywhere.
     pub fn new(operator: Operator, source: Source) -> Self {
         Layer {
             operator,
@@ -110,11 +113,13 @@ impl Layer {
             flags: Flags::default(),
             source,
             arguments: vec![],
+            window: Window::default(),
         }
     }
 
     fn row(&self) -> [i64; COLUMNS] {
         let Source { first, width, height, channels } = self.source;
+        let [window_left, window_top, window_width, window_height] = self.window.numbers();
         [
             self.operator.number() as i64,
             self.gravity.number() as i64,
@@ -126,6 +131,10 @@ impl Layer {
             height,
             channels,
             self.arguments.len() as i64,
+            window_left,
+            window_top,
+            window_width,
+            window_height,
         ]
     }
 
@@ -141,6 +150,7 @@ impl Layer {
             flags: row[4].try_into()?,
             source: Source { first: row[5], width: row[6], height: row[7], channels: row[8] },
             arguments: floats(words)[..count?].to_vec(),
+            window: Window::of_row(row),
         })
     }
 
@@ -156,7 +166,7 @@ impl Layer {
 /// Layers as the library reads them, the lowest first.
 #[derive(Clone, Debug, Default, PartialEq)]
 pub struct Stack {
-    /// Ten numbers a layer ([`COLUMNS`]).
+    /// Fourteen numbers a layer ([`COLUMNS`]).
     pub table: Vec<i64>,
     /// The bits of four arguments a layer ([`ARGUMENTS`]).
     pub args: Vec<u32>,

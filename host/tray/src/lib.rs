@@ -27,7 +27,8 @@
 //! stopped worker is gone before the next call starts, and nothing else writes the job's memory until it is finished.
 //! examples/job.rs is a host with such a job.
 //!
-//! A card ([`Card`]) is a job as text, which people keep and edit.
+//! A layer writes within its window ([`Window`]), and a pixel off it keeps its bits. A card ([`Card`]) is a job as text, which
+//! people keep and edit.
 //!
 //! A call that computes asks first whether the calling thread's arithmetic is the library's ([`environment`]).
 
@@ -42,16 +43,18 @@ mod layer;
 mod memory;
 mod operator;
 pub mod raw;
+mod window;
 
 pub use card::Card;
 pub use environment::{environment, Environment};
-pub use fault::{CardFault, Error, Fault, Refusal};
+pub use fault::{CardFault, Error, Fault, NoCard, Refusal};
 pub use gravity::{Gravity, UnknownGravity};
 pub use job::{job, phase, total, Progress};
 pub use layer::{Flags, Inputs, Layer, Source, Stack, ARGUMENTS, COLUMNS, LAYERS, OFFSET, SIDE};
 pub use memory::Memory;
 pub use operator::{from_name, Argument, ArgumentDefault, Operator};
 pub use raw::{floats, floats_mut, words, words_mut};
+pub use window::Window;
 
 /// One layer on one destination. `out` has four words a pixel of the destination.
 pub fn compose(inputs: &Inputs, out: &mut [u32]) -> Result<(), Error<Fault>> {

@@ -1,7 +1,8 @@
-//! The crate on the library that it links: document 01's trial values, each fault, and a job cut at every store.
+//! The crate on the library that it links: document 01's trial values, each fault, windows, and a job cut at every store.
 
 use tray::{compose, floats, floats_mut, from_name, job, narrow, narrow_bytes, phase, total, words, words_mut};
-use tray::{Error, Fault, Flags, Gravity, Inputs, Layer, Memory, Operator, Progress, Refusal, Source, Stack};
+use tray::{Error, Fault, Flags, Gravity, Inputs, Layer, Memory, Operator, Progress, Refusal, Source, Stack, Window};
+use tray::{COLUMNS, SIDE};
 
 /// A source of `width` × 1 pixels of four channels at the front of the samples.
 fn line(width: i64) -> Source {
@@ -63,6 +64,61 @@ fn placed_tiled_and_masked() {
     assert_eq!(out, [8, 100, 100, 11, 0, 100, 100, 3, 4, 100, 100, 7, 8, 100, 100, 11]);
 }
 
+/// Whether a pixel lies in a window.
+fn holds(window: Window, x: i64, y: i64) -> bool {
+    let Window { left, top, width, height } = window;
+    (left..left + width).contains(&x) && (top..top + height).contains(&y)
+}
+
+/// One layer on a destination of 7 × 5 pixels of which each word is its own, some of them NaNs. The source has 3 × 2.
+fn seven_by_five(layer: Layer) -> (Vec<u32>, Vec<u32>) {
+    let odd = |n: usize| if n % 3 == 0 { 0x7fa0_0000 + n as u32 } else { (n as f32 / 140.0).to_bits() };
+    let dst: Vec<u32> = (0..7 * 5 * 4).map(odd).collect();
+    let samples: Vec<u32> = (0..3 * 2 * 4).map(|n| (0.9 - n as f32 / 40.0).to_bits()).collect();
+    let stack = Stack::new(&[layer]);
+    let inputs = Inputs { height: 5, ..inputs(7, &dst, &stack, &samples) };
+    let mut out = vec![0; dst.len()];
+    compose(&inputs, &mut out).unwrap();
+    (dst, out)
+}
+
+/// A window puts the destination's bits back off itself, and changes nothing in itself: not where the source lies, nor what a
+/// map reads.
+#[test]
+fn windows_cut_what_is_written() {
+    let source = Source { first: 0, width: 3, height: 2, channels: 4 };
+    let windows = [
+        [2, 1, 3, 2],
+        [0, 0, 7, 5],
+        [6, 4, 1, 1],
+        [5, 3, 2048, 2048],
+        [1, 0, 1, 2048],
+        [7, 0, 2048, 2048],
+        [0, 5, 2048, 2048],
+        [2048, 2048, 2048, 2048],
+        [0, 0, 0, 5],
+        [0, 0, 7, 0],
+    ];
+    for operator in [Operator::Over, Operator::Src, Operator::Clear, Operator::Displace, Operator::Distort] {
+        for (tile, overlay) in [(false, false), (false, true), (true, false), (true, true)] {
+            let flags = Flags { tile, overlay, channels: [true, true, false, true] };
+            let whole = Layer { offset: (2, 1), flags, arguments: vec![9.0], ..Layer::new(operator, source) };
+            let (dst, without) = seven_by_five(whole.clone());
+            for [left, top, width, height] in windows {
+                let window = Window { left, top, width, height };
+                let (_, with) = seven_by_five(Layer { window, ..whole.clone() });
+                for pixel in 0..35 {
+                    let wanted = if holds(window, pixel % 7, pixel / 7) { &without } else { &dst };
+                    let words = 4 * pixel as usize..4 * pixel as usize + 4;
+                    assert_eq!(with[words.clone()], wanted[words], "{operator} {flags:?}, {window}, pixel {pixel}");
+                }
+            }
+        }
+    }
+    assert_eq!(Window::default(), Window { left: 0, top: 0, width: SIDE as i64, height: SIDE as i64 });
+    assert_eq!(Window { left: 1, top: 2, width: 3, height: 4 }.to_string(), "1,2,3,4");
+}
+
 #[test]
 fn narrowing() {
     let pixels = words(&[0.5, 1.0, f32::NAN, 0.25]).to_vec();
@@ -101,9 +157,11 @@ impl Job {
     fn new(layers: usize) -> Self {
         use Operator::*;
         let operators = [Over, Multiply, Xor, SoftLight, Displace, Hue, Rmse];
+        let windows = [Window::FULL, Window { left: 1, ..Window::FULL }, Window { width: 1, ..Window::FULL }];
         let layer = |k: usize| Layer {
             gravity: Gravity::Centre,
             arguments: vec![0.5, 2.0],
+            window: windows[k % windows.len()],
             ..Layer::new(operators[k % operators.len()], line(2))
         };
         Job {
@@ -149,6 +207,14 @@ fn allowances() {
 fn cut_anywhere_and_taken_up() {
     let mut whole = Job::new(7);
     assert_eq!(whole.call(u64::MAX), Ok(Progress { stores: 80, finished: true }));
+    // The picture is that of the layers one by one, each within its window.
+    let mut beneath = whole.dst.clone();
+    for layer in whole.layers.chunks(1) {
+        let (mut out, stack) = (vec![0; 8], Stack::new(layer));
+        compose(&inputs(2, &beneath, &stack, &whole.samples), &mut out).unwrap();
+        beneath = out;
+    }
+    assert_eq!(whole.work[1], beneath);
     for cut in 0..=80 {
         let mut job = Job::new(7);
         assert_eq!(job.call(cut).unwrap().stores, cut);
@@ -186,6 +252,58 @@ fn every_fault() {
     }
 }
 
+/// Each number of a window by itself, in either layer; and the fault's place among the others.
+#[test]
+fn a_windows_numbers() {
+    let numbers: [fn(&mut Window) -> &mut i64; 4] =
+        [|w| &mut w.left, |w| &mut w.top, |w| &mut w.width, |w| &mut w.height];
+    for number in numbers {
+        for layer in 0..2 {
+            let with = |n: i64| {
+                let mut job = Job::new(2);
+                *number(&mut job.layers[layer].window) = n;
+                job
+            };
+            for beyond in [-1, SIDE as i64 + 1, i64::MIN, i64::MAX] {
+                with(beyond).refused(Fault::Window, layer as u64);
+            }
+            for within in [0, 1, SIDE as i64] {
+                assert_eq!(with(within).call(u64::MAX), Ok(Progress { stores: 30, finished: true }));
+            }
+        }
+    }
+    let with = |change: fn(&mut Job)| {
+        let mut job = Job::new(2);
+        job.layers[0].window.top = -1;
+        change(&mut job);
+        job
+    };
+    with(|job| job.layers[0].arguments = vec![0.0; 5]).refused(Fault::Arguments, 0);
+    with(|job| job.layers[1].operator = Operator::Interpolate).refused(Fault::Window, 0);
+    with(|job| job.work[0] = vec![]).refused(Fault::Window, 0);
+    with(|job| job.mark = vec![7]).refused(Fault::Window, 0);
+}
+
+/// A row of another length, such as one from before there were windows, is refused and not read otherwise.
+#[test]
+fn rows_of_another_length() {
+    let layer = Layer::new(Operator::Over, line(1));
+    let stack = Stack::new(&[layer.clone(), layer]);
+    let (pixel, mut out) = ([7; 4], [9; 4]);
+    let called = inputs(1, &pixel, &stack, &pixel);
+    for columns in [0, 10, COLUMNS - 1, COLUMNS + 1] {
+        let (args, table) = (&stack.args[..4], [&stack.table[..], &[0]].concat());
+        let one = Inputs { table: &table[..columns], args, ..called };
+        assert_eq!(compose(&one, &mut out), Err(Error::Refused(Fault::Stack)), "{columns} numbers");
+        let (mut work0, mut work1) = ([9; 4], [9; 4]);
+        let memory = Memory { work0: &mut work0, work1: &mut work1, mark: &mut [0] };
+        let two = Inputs { table: &vec![0; 2 * columns], ..called };
+        let refused = Error::Refused(Refusal { fault: Fault::Stack, layer: 0 });
+        assert_eq!(job(&two, u64::MAX, memory), Err(refused), "{columns} numbers a layer");
+        assert_eq!((out, work0, work1), ([9; 4], [9; 4], [9; 4]), "a refused call wrote");
+    }
+}
+
 #[test]
 fn gravities_by_name() {
     for (number, gravity) in Gravity::ALL.into_iter().enumerate() {
@@ -220,8 +338,14 @@ fn samples_as_words() {
 #[test]
 fn faults_by_number_and_word() {
     let numbers: Vec<u64> = Fault::ALL.iter().map(|fault| fault.number()).collect();
-    assert_eq!(numbers, (1..=12).collect::<Vec<u64>>());
+    assert_eq!(numbers, (1..=13).collect::<Vec<u64>>());
     let refusal = Refusal { fault: Fault::Operator, layer: 2 };
     assert_eq!(refusal.to_string(), "refused: 3 OPERATOR in layer 2: no such operator");
     assert!(Fault::Tray.to_string().starts_with("refused: 2 TRAY: "));
+    let refusal = Refusal { fault: Fault::Window, layer: 15 };
+    let said = "refused: 13 WINDOW in layer 15: a window's left, top, width and height are 0 to 2048";
+    assert_eq!(refusal.to_string(), said);
+    let with_layer: Vec<u64> =
+        Fault::ALL.iter().filter(|fault| fault.has_layer()).map(|fault| fault.number()).collect();
+    assert_eq!(with_layer, [3, 4, 5, 6, 7, 8, 13]);
 }

@@ -2,8 +2,8 @@
 //! the crate prints is read back.
 
 use tray::raw::{self, CardAnswers};
-use tray::{job, Card, CardFault, Error, Fault, Flags, Gravity, Layer, Memory, Operator, Refusal, Source, Stack};
-use tray::{ARGUMENTS, COLUMNS, LAYERS};
+use tray::{job, Card, CardFault, Error, Fault, Flags, Gravity, Layer, Memory, NoCard, Operator, Refusal, Source};
+use tray::{Stack, Window, ARGUMENTS, COLUMNS, LAYERS};
 
 const TRAY: &str = "(tray 1 2 1 3)\n";
 const LAYER: &str = "(layer over (place 0 3 -2) (flags 62) (source 0 2 1 3) (args 3f000000))\n";
@@ -25,7 +25,7 @@ impl Numbers {
     }
 }
 
-/// A card with layers of which each number is any.
+/// A card with layers of which each number is any, and the window the full one, which is a card's.
 fn any(numbers: &mut Numbers, layers: usize) -> Card {
     let (mut table, mut args) = (vec![], vec![]);
     for _ in 0..layers {
@@ -33,6 +33,7 @@ fn any(numbers: &mut Numbers, layers: usize) -> Card {
         table.push(numbers.below(70) as i64);
         table.extend((1..9).map(|_| numbers.number()));
         table.push(count as i64);
+        table.extend(Window::FULL.numbers());
         args.extend((0..ARGUMENTS as u64).map(|k| if k < count { numbers.below(1 << 32) as u32 } else { 0 }));
     }
     let [width, height, channels] = [(); 3].map(|()| numbers.number());
@@ -46,7 +47,7 @@ fn refused(text: &str) -> Option<u64> {
 #[test]
 fn the_card_of_document_02() {
     let card: Card = (TRAY.to_string() + LAYER).parse().unwrap();
-    assert_eq!(card.stack.table, [0, 0, 3, -2, 62, 0, 2, 1, 3, 1]);
+    assert_eq!(card.stack.table, [0, 0, 3, -2, 62, 0, 2, 1, 3, 1, 0, 0, 2048, 2048]);
     assert_eq!(card.stack.args, [0x3f00_0000, 0, 0, 0]);
     let layer = Layer {
         offset: (3, -2),
@@ -180,7 +181,7 @@ fn what_is_written() {
         assert_eq!(called(text, numbers, words), (12, refused, vec![7; numbers], vec![7; words]), "{text}, {numbers}");
     }
     let (mut table, mut args) = (vec![0; all], vec![0; four]);
-    table[..COLUMNS].copy_from_slice(&[0, 0, 3, -2, 62, 0, 2, 1, 3, 1]);
+    table[..COLUMNS].copy_from_slice(&[0, 0, 3, -2, 62, 0, 2, 1, 3, 1, 0, 0, 2048, 2048]);
     args[0] = 0x3f00_0000;
     let answers = CardAnswers { line: 0, width: 2, height: 1, channels: 3, layers: 1 };
     assert_eq!(called(good, all, four), (0, answers, table, args));
@@ -209,7 +210,10 @@ fn not_printed() {
     let with = |change: &dyn Fn(&mut Card)| {
         let mut card = any(&mut Numbers(2), 3);
         change(&mut card);
-        card.to_text().map_err(|fault| fault.line)
+        card.to_text().map_err(|no_card| match no_card {
+            NoCard::Form(fault) => fault.line,
+            NoCard::Window { .. } => panic!("{no_card}"),
+        })
     };
     let long = 10_000_000_000;
     assert!(with(&|_| ()).is_ok());
@@ -225,9 +229,35 @@ fn not_printed() {
     for count in [-1, 5, i64::MAX] {
         assert_eq!(with(&|card| card.stack.table[2 * COLUMNS + 9] = count), Err(4));
     }
-    assert_eq!(with(&|card| card.stack.table.truncate(29)), Err(0));
+    assert_eq!(with(&|card| card.stack.table.truncate(3 * COLUMNS - 1)), Err(0));
+    assert_eq!(with(&|card| card.stack.table.truncate(3 * 10)), Err(0));
     assert_eq!(with(&|card| card.stack.args.push(0)), Err(0));
-    assert_eq!(any(&mut Numbers(3), LAYERS + 1).to_text(), Err(CardFault { line: 18 }));
+    assert_eq!(any(&mut Numbers(3), LAYERS + 1).to_text(), Err(CardFault { line: 18 }.into()));
+}
+
+/// A card has no window: what a layer's says is not lost in a print, even where it cuts nothing of this destination.
+#[test]
+fn windows_are_not_printed() {
+    let card: Card = (TRAY.to_string() + LAYER + LAYER).parse().unwrap();
+    assert!(card.to_layers().unwrap().iter().all(|layer| layer.window == Window::FULL));
+    let full = Window::FULL;
+    for window in [
+        Window { left: 1, ..full },
+        Window { top: 1, ..full },
+        Window { width: 2, ..full },
+        Window { height: 1, ..full },
+        Window { width: 0, height: 0, ..full },
+    ] {
+        for layer in 0..2 {
+            let mut layers = card.to_layers().unwrap();
+            layers[layer].window = window;
+            let cut = Card { stack: Stack::new(&layers), ..card.clone() };
+            assert_eq!(cut.to_text(), Err(NoCard::Window { layer: layer as u64, window }));
+            assert_eq!((cut.to_layers(), cut.check()), (Ok(layers), Ok(())));
+        }
+    }
+    let said = NoCard::Window { layer: 2, window: Window { left: 3, ..Window::FULL } }.to_string();
+    assert_eq!(said, "layer 2 has the window 3,0,2048,2048, and a card of edition 1 has no windows");
 }
 
 /// Numbers out of a job's ranges are read, and refused as a job refuses them: by `check` and by the job's call.

@@ -1,4 +1,4 @@
-//! misread [FILE [COUNT]]: replays the fixed vectors on the restatement of document 01. Without a misreading every
+//! misread [FILE [COUNT]]: replays the fixed vectors on the restatement of documents 01 and 02. Without a misreading every
 //! line must agree; with each of the misreadings, one at a time, some line must not, unless the misreading is
 //! named as equivalent: then every line must, and COUNT random compositions besides. Ends with a count, and
 //! with status 1 if any of this fails.

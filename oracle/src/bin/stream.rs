@@ -2,7 +2,7 @@
 //! COUNT / 10 narrowings and COUNT / 10 names, put to the compiled Rust with document 01's model around it and
 //! to the other side: the static library that the feature `tray` links, or else the restatement. Every
 //! word, answer, count and untouched word is compared. The first mismatch is shrunk, and printed as a line
-//! that the vectors' program can replay.
+//! that the vectors' program can replay. The counts at the end say what windows had to do with it.
 //!
 //! stream grays COUNT SEED: instead of these COUNT random pixels, narrowed to one channel as words and as bytes.
 //!
@@ -10,11 +10,14 @@
 
 use oracle::compare::{agrees, answered, expected};
 use oracle::lines::{Case, FILL, FILL_INTEGER, Outcome, Request, alone};
+use oracle::model::Reference;
 use oracle::ours;
 use oracle::random::Random;
-use oracle::request::{Memory, Side};
+use oracle::reference::is_map;
+use oracle::request::{COLUMNS, Job, Memory, Side, WHOLE, WINDOW, Window};
 use oracle::restated::{Reading, Restated};
 use oracle::shrink::shrink;
+use oracle::window;
 use std::fmt::Debug;
 
 #[derive(Default)]
@@ -32,6 +35,53 @@ struct Counts {
     cards: u64,
     accepted_cards: u64,
     layers: u64,
+    windows: Windows,
+}
+
+/// How much windows had to do with it.
+#[derive(Default)]
+struct Windows {
+    /// Compositions with pixels off the window, those of maps, and those with tiles or overlay.
+    cut: u64,
+    maps: u64,
+    spread: u64,
+    /// Pixels off the windows, and those that would be others without.
+    off: u64,
+    kept: u64,
+    /// Accepted calls of jobs in which a layer has pixels off its window.
+    calls: u64,
+    /// Refusals by 13.
+    refused: u64,
+    refused_calls: u64,
+}
+
+/// The windows of a job's layers.
+fn windows(job: &Job) -> impl Iterator<Item = Window> {
+    job.table.chunks_exact(COLUMNS).map(|row| row[WINDOW..].try_into().expect("four numbers"))
+}
+
+fn cuts(job: &Job) -> bool {
+    windows(job).any(|window| window::off(window, job.width, job.height).next().is_some())
+}
+
+impl Windows {
+    /// A composition that was accepted, and its picture.
+    fn composition(&mut self, job: &Job, out: &[u32]) {
+        if !cuts(job) {
+            return;
+        }
+        self.cut += 1;
+        self.maps += is_map(job.table[0] as usize) as u64;
+        self.spread += (job.table[4] & 3 != 0) as u64;
+        let (mut whole, mut painted) = (job.clone(), vec![0; out.len()]);
+        whole.table[WINDOW..].copy_from_slice(&WHOLE);
+        Reference.compose(&whole, &mut painted);
+        let pixels = windows(job).flat_map(|window| window::off(window, job.width, job.height));
+        for i in pixels {
+            self.off += 1;
+            self.kept += (out[4 * i..][..4] != painted[4 * i..][..4]) as u64;
+        }
+    }
 }
 
 struct Stream {
@@ -53,15 +103,22 @@ impl Stream {
     fn count(&mut self, case: &Case) {
         let counts = &mut self.counts;
         match (&case.request, &case.expected) {
-            (Request::Compose { job, .. }, Outcome::Words { number, .. }) => {
+            (Request::Compose { job, .. }, Outcome::Words { number, out }) => {
                 counts.compositions += 1;
                 counts.refused += (*number != 0) as u64;
-                counts.pixels += if *number == 0 { (job.width * job.height) as u64 } else { 0 };
+                counts.windows.refused += (*number == 13) as u64;
+                if *number == 0 {
+                    counts.pixels += (job.width * job.height) as u64;
+                    counts.windows.composition(job, out);
+                }
             }
-            (_, Outcome::Calls { answers, .. }) => {
+            (Request::Calls { job, .. }, Outcome::Calls { answers, .. }) => {
+                let with = |number: u64| answers.iter().filter(|(a, _)| a.number == number).count() as u64;
                 counts.calls += answers.len() as u64;
-                counts.refused_calls += answers.iter().filter(|(a, _)| a.number != 0).count() as u64;
+                counts.refused_calls += answers.len() as u64 - with(0);
                 counts.stores += answers.iter().map(|(a, _)| a.stores).sum::<u64>();
+                counts.windows.calls += if with(0) > 0 && cuts(job) { with(0) } else { 0 };
+                counts.windows.refused_calls += with(13);
             }
             (Request::Name(_), _) => counts.names += 1,
             (_, Outcome::Card { answer, .. }) => {
@@ -176,4 +233,11 @@ fn report_requests(c: &Counts) {
     println!("compositions {} ({} refused, {} pixels)", c.compositions, c.refused, c.pixels);
     println!("jobs {}, their calls {} ({} refused, {} stores)", c.jobs, c.calls, c.refused_calls, c.stores);
     println!("narrowings {}, names {}", c.narrowings, c.names);
+    let w = &c.windows;
+    println!("windows cut {} compositions ({} of maps, {} with tiles or overlay)", w.cut, w.maps, w.spread);
+    println!(
+        "pixels off them {}, of which {} would be others without; calls of jobs that they cut {}",
+        w.off, w.kept, w.calls
+    );
+    println!("refused by 13: compositions {}, calls {}", w.refused, w.refused_calls);
 }

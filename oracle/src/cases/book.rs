@@ -29,9 +29,15 @@ impl Book {
         case.expected
     }
 
+    /// A single composition into an output of this length.
+    pub fn single(&mut self, job: &Job, length: usize) {
+        self.put(Request::Compose { job: job.clone(), length });
+    }
+
+    /// A single composition into an output of the right length.
     pub fn compose(&mut self, job: &Job) {
         let area = job.width.max(0).saturating_mul(job.height.max(0)).min(1 << 14);
-        self.put(Request::Compose { job: job.clone(), length: 4 * area as usize });
+        self.single(job, 4 * area as usize);
     }
 
     /// Calls of a job, and the memory after them.

@@ -339,12 +339,24 @@ fn lines(book: &mut Book) {
 fn lists(book: &mut Book) {
     book.note("cards: lists of other lengths");
     let mut put = |text: &str, table, args| _ = book.put(Request::Card { text: text.into(), table, args });
-    for (table, args) in [(0, 0), (10, 4), (159, 64), (161, 64), (160, 63), (160, 65), (320, 128), (0, 64), (160, 0)] {
+    for (table, args) in [
+        (0, 0),
+        (14, 4),
+        (160, 64),
+        (223, 64),
+        (225, 64),
+        (224, 63),
+        (224, 65),
+        (320, 128),
+        (0, 64),
+        (224, 0),
+        (160, 40),
+    ] {
         put(CARD, table, args);
         put("", table, args);
     }
     put(TRAY, 0, 0);
-    put("(tray 2 2 1 3)\n", 159, 64);
+    put("(tray 2 2 1 3)\n", 223, 64);
 }
 
 pub fn put(book: &mut Book) {

@@ -4,19 +4,19 @@
 use super::book::Book;
 use super::layer::Row;
 use crate::random::{Random, carried};
-use crate::request::{Job, Memory};
+use crate::request::{COLUMNS, Job, Memory};
 
 const ALL: u64 = u64::MAX;
 
 /// Work buffers with content of their own, at mark 0.
-fn fresh(job: &Job) -> Memory {
+pub fn fresh(job: &Job) -> Memory {
     let size = (job.width * job.height * 4) as u32;
     let words = |first: u32| (first..first + size).collect();
     Memory { work: [words(0x100), words(0x300)], mark: vec![0] }
 }
 
 /// A job of the given operators, on a tray and with sources that tell their pixels apart.
-fn stacked(random: &mut Random, (width, height, channels): (i64, i64, i64), operators: &[i64]) -> Job {
+pub fn stacked(random: &mut Random, (width, height, channels): (i64, i64, i64), operators: &[i64]) -> Job {
     let value = |random: &mut Random| (random.below(256) as f32 / 255.0).to_bits();
     let dst = (0..width * height * channels).map(|_| value(random)).collect();
     let mut job = Job { width, height, channels, dst, layers: operators.len() as i64, ..Job::default() };
@@ -96,7 +96,7 @@ fn every_cut(book: &mut Book, random: &mut Random) {
     book.note("jobs: two layers of one operator with arguments of their own");
     for operator in [44, 45, 64, 65] {
         let mut job = stacked(random, (2, 2, 3), &[operator, operator]);
-        (job.table[9], job.table[19]) = (2, 2);
+        (job.table[9], job.table[COLUMNS + 9]) = (2, 2);
         book.calls(&job, &fresh(&job), &[17, ALL]);
     }
     book.note("jobs: NaN patterns of the tray through phases that keep them and phases that store them");
@@ -106,8 +106,9 @@ fn every_cut(book: &mut Book, random: &mut Random) {
         for (i, word) in job.dst.iter_mut().enumerate().step_by(2) {
             *word = patterns[i / 2 % 4];
         }
-        (job.table[4], job.table[14], job.table[24]) = (60, 28, 60);
-        (job.table[2], job.table[12], job.table[22]) = (1, 2, -1);
+        for (row, (flags, right)) in job.table.chunks_exact_mut(COLUMNS).zip([(60, 1), (28, 2), (60, -1)]) {
+            (row[4], row[2]) = (flags, right);
+        }
         book.calls(&job, &fresh(&job), &[16, 12, 20, ALL]);
     }
 }
@@ -116,7 +117,7 @@ fn refused_between(book: &mut Book, random: &mut Random) {
     book.note("jobs: refused calls between a job's own, each finding what the last one left");
     let job = stacked(random, (3, 2, 4), &[4, 66, 31]);
     let mut bad = job.clone();
-    bad.table[20] = 43;
+    bad.table[2 * COLUMNS] = 43;
     let other = Job { width: 2, height: 3, layers: 4, ..job.clone() };
     let mut memory = fresh(&job);
     for allowance in [8, 27, 30, 41, 2, 50] {

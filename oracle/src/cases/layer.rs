@@ -1,6 +1,6 @@
 //! One layer as the cases write it: its row of the table, its arguments, and a job of single pixels.
 
-use crate::request::{ARGUMENTS, Job};
+use crate::request::{ARGUMENTS, COLUMNS, Job, WHOLE, Window};
 
 /// Overlay on and every channel on.
 const PLAIN: i64 = 62;
@@ -18,14 +18,28 @@ pub struct Row {
     pub height: i64,
     pub channels: i64,
     pub count: i64,
+    pub window: Window,
 }
 
 impl Row {
     pub fn new(operator: i64, (width, height, channels): (i64, i64, i64)) -> Self {
-        Row { operator, gravity: 0, right: 0, down: 0, flags: PLAIN, start: 0, width, height, channels, count: 0 }
+        Row {
+            operator,
+            gravity: 0,
+            right: 0,
+            down: 0,
+            flags: PLAIN,
+            start: 0,
+            width,
+            height,
+            channels,
+            count: 0,
+            window: WHOLE,
+        }
     }
 
-    pub fn numbers(self) -> [i64; 10] {
+    pub fn numbers(self) -> [i64; COLUMNS] {
+        let [left, top, width, height] = self.window;
         [
             self.operator,
             self.gravity,
@@ -37,6 +51,10 @@ impl Row {
             self.height,
             self.channels,
             self.count,
+            left,
+            top,
+            width,
+            height,
         ]
     }
 }

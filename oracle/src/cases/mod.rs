@@ -13,6 +13,7 @@ mod placing;
 mod refusals;
 mod spoiled;
 mod traps;
+mod windows;
 
 use book::Book;
 
@@ -27,6 +28,7 @@ pub fn all() -> Book {
     operators::put(&mut book);
     arguments::put(&mut book);
     placing::put(&mut book);
+    windows::put(&mut book);
     traps::put(&mut book);
     refusals::put(&mut book);
     jobs::put(&mut book);

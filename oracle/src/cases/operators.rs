@@ -28,11 +28,11 @@ fn picture(words: impl Fn(usize, usize) -> [u32; 4]) -> Vec<u32> {
 /// One round: every operator on one pair of pictures.
 fn round(book: &mut Book, text: &str, dst: Vec<u32>, samples: Vec<u32>) {
     book.note(&format!("operators: {text}"));
-    let side = SIDE as i64;
-    let mut job = Job { width: side, height: side, channels: 4, dst, layers: 1, samples, ..Job::default() };
+    let (width, height) = (SIDE as i64, (dst.len() / 4 / SIDE) as i64);
+    let mut job = Job { width, height, channels: 4, dst, layers: 1, samples, ..Job::default() };
     job.args = vec![0x3f80_0000; 4];
     for operator in carried() {
-        job.table = Row::new(operator, (side, side, 4)).numbers().to_vec();
+        job.table = Row::new(operator, (width, height, 4)).numbers().to_vec();
         book.compose(&job);
     }
 }
@@ -64,18 +64,19 @@ pub fn put(book: &mut Book) {
     });
     round(book, "special alphas against each other", dst, source);
     let mut random = Random::new(7);
-    let mut drawn = |draw: &dyn Fn(u64) -> u32| picture_of(&mut random, draw);
+    let mut drawn = |rows, draw: &dyn Fn(u64) -> u32| picture_of(&mut random, rows, draw);
     let byte = |n: u64| ((n % 256) as f32 / 255.0).to_bits();
-    let (dst, samples) = (drawn(&byte), drawn(&byte));
+    let (dst, samples) = (drawn(SIDE, &byte), drawn(SIDE, &byte));
     round(book, "bytes", dst, samples);
+    // Fewer rows: the whole file has to fit into the room of the program that replays it.
     let unit = |n: u64| ((n % (1 << 24)) as f32 / (1 << 24) as f32).to_bits();
-    let (dst, samples) = (drawn(&unit), drawn(&unit));
+    let (dst, samples) = (drawn(5, &unit), drawn(5, &unit));
     round(book, "between 0 and 1", dst, samples);
     let around = |n: u64| ((n % (1 << 20)) as f32 / (1 << 18) as f32 - 1.5).to_bits();
-    let (dst, samples) = (drawn(&around), drawn(&around));
+    let (dst, samples) = (drawn(SIDE, &around), drawn(SIDE, &around));
     round(book, "from -1.5 to 2.5", dst, samples);
 }
 
-fn picture_of(random: &mut Random, draw: &dyn Fn(u64) -> u32) -> Vec<u32> {
-    (0..SIDE * SIDE * 4).map(|_| draw(random.bits() >> 8)).collect()
+fn picture_of(random: &mut Random, rows: usize, draw: &dyn Fn(u64) -> u32) -> Vec<u32> {
+    (0..SIDE * rows * 4).map(|_| draw(random.bits() >> 8)).collect()
 }

@@ -2,8 +2,7 @@
 
 use super::book::Book;
 use super::layer::Row;
-use crate::lines::Request;
-use crate::request::{COLUMNS, Job, Memory};
+use crate::request::{COLUMNS, Job, Memory, WINDOW};
 
 const LAYERS: usize = 4;
 
@@ -68,9 +67,13 @@ fn changes() -> Vec<Vec<Change>> {
     out
 }
 
-/// A fault of each number 3 to 8.
-const FAULTS: [(u64, Change); 6] =
-    [(3, (0, 70)), (4, (0, 43)), (5, (2, 1_000_001)), (6, (4, 64)), (7, (5, 100)), (8, (9, 5))];
+/// What a window's numbers may be, and what is 13.
+const WITHIN: [i64; 4] = [0, 1, 2047, 2048];
+const PAST: [i64; 8] = [-1, 2049, -2049, 1 << 32, (1 << 32) + 5, i64::MIN + 2048, i64::MIN, i64::MAX];
+
+/// A fault of each number 3 to 8, and of 13.
+const FAULTS: [(u64, Change); 7] =
+    [(3, (0, 70)), (4, (0, 43)), (5, (2, 1_000_001)), (6, (4, 64)), (7, (5, 100)), (8, (9, 5)), (13, (12, 2049))];
 
 fn set(job: &mut Job, layer: usize, changes: &[Change]) {
     for (column, value) in changes {
@@ -90,9 +93,17 @@ pub fn put(book: &mut Book) {
             book.calls(&job, &memory, &[7]);
         }
     }
+    windows(book, &job, &memory);
     lent(book, &job, &memory);
     several(book, &job, &memory);
     single(book, &job);
+}
+
+/// The job with its sheet cut to other counts of numbers a layer.
+fn cut_rows(job: &Job, columns: usize) -> Job {
+    let rows = job.table.chunks(COLUMNS);
+    let table = rows.flat_map(|row| row.iter().copied().cycle().take(columns)).collect();
+    Job { table, ..job.clone() }
 }
 
 fn stack(book: &mut Book, job: &Job, memory: &Memory) {
@@ -106,10 +117,13 @@ fn stack(book: &mut Book, job: &Job, memory: &Memory) {
         args: vec![0; n * 4],
         ..job.clone()
     };
-    for n in [0, 1, 15, 16, 17, 32] {
+    for n in [0, 1, 15, 16, 17, 22] {
         book.calls(&rows(n), memory, &[7]);
     }
-    for length in [0, 10, 39, 41, 50, 80] {
+    for columns in [9, 10, 13, 15] {
+        book.calls(&cut_rows(job, columns), memory, &[7]);
+    }
+    for length in [0, 14, 55, 57, 70, 112] {
         let table = job.table.iter().copied().cycle().take(length).collect();
         book.calls(&Job { table, ..job.clone() }, memory, &[7]);
     }
@@ -148,6 +162,27 @@ fn tray(book: &mut Book, job: &Job, memory: &Memory) {
     book.note("refusals: the tray's longest sides, accepted");
     for (width, height) in [(2048, 0), (0, 2048), (2047, 0), (0, 0)] {
         book.calls(&sized(width, height, 4, 0), &none, &[0, 1, 9]);
+    }
+}
+
+fn windows(book: &mut Book, job: &Job, memory: &Memory) {
+    book.note("refusals: 13, each of a window's numbers past its limits, in the first, a middle and the last layer");
+    for (layer, numbers) in [(0, [-1, 2049]), (1, [i64::MIN, (1 << 32) + 5]), (LAYERS - 1, [-2049, i64::MAX])] {
+        for i in 0..4 {
+            for number in numbers {
+                let mut bad = job.clone();
+                set(&mut bad, layer, &[(WINDOW + i, number)]);
+                book.calls(&bad, memory, &[7]);
+            }
+        }
+    }
+    book.note("refusals: 13, limits that are accepted; sums and windows past the tray are none");
+    for window in [[2048; 4], [2047, 0, 2, 2048], [2, 1, 1, 1], [0; 4], [1, 0, 2, 1], [0, 2048, 1, 0]] {
+        let mut job = job.clone();
+        for layer in [0, 3] {
+            set(&mut job, layer, &[0, 1, 2, 3].map(|i| (WINDOW + i, window[i])));
+        }
+        book.calls(&job, memory, &[7]);
     }
 }
 
@@ -190,15 +225,15 @@ fn several(book: &mut Book, job: &Job, memory: &Memory) {
         }
     }
     let mut every = job.clone();
-    set(&mut every, 1, &[(0, 67), (1, 10), (4, -1), (6, -1), (9, 9)]);
+    set(&mut every, 1, &[(0, 67), (1, 10), (4, -1), (6, -1), (9, 9), (10, -1), (13, 9999)]);
     set(&mut every, 0, &[(9, -1)]);
     set(&mut every, 2, &[(0, -1)]);
     book.calls(&every, memory, &[7]);
-    for row in [None, Some((3, (0, 70))), Some((7, (5, -1))), Some((8, (9, 5)))] {
+    for row in [None, Some((0, 70)), Some((5, -1)), Some((9, 5)), Some((11, -1))] {
         for rest in 1..32u32 {
             let mut bad = job.clone();
             let mut lent = memory.clone();
-            if let Some((_, change)) = row {
+            if let Some(change) = row {
                 set(&mut bad, rest as usize % LAYERS, &[change]);
             }
             if rest & 1 != 0 {
@@ -225,35 +260,58 @@ fn several(book: &mut Book, job: &Job, memory: &Memory) {
 fn single(book: &mut Book, four: &Job) {
     book.note("refusals: a single composition");
     let job = Job { layers: 1, table: four.table[..COLUMNS].to_vec(), args: vec![0; 4], ..four.clone() };
-    let put = |book: &mut Book, job: &Job, length: usize| {
-        book.put(Request::Compose { job: job.clone(), length });
-    };
     for change in changes() {
         let mut job = job.clone();
         set(&mut job, 0, &change);
-        put(book, &job, 8);
+        book.single(&job, 8);
+    }
+    for i in 0..4 {
+        for number in WITHIN.into_iter().chain(PAST) {
+            let mut job = job.clone();
+            set(&mut job, 0, &[(WINDOW + i, number)]);
+            book.single(&job, 8);
+        }
     }
     for length in [0, 1, 2, 6, 7, 8, 9, 16] {
-        put(book, &job, length);
+        book.single(&job, length);
     }
-    for (table, args) in [(0, 4), (9, 4), (11, 4), (20, 4), (20, 8), (10, 0), (10, 3), (10, 5), (10, 8), (0, 0)] {
-        let table = job.table.iter().copied().cycle().take(table).collect();
-        put(book, &Job { table, args: vec![0; args], ..job.clone() }, 8);
+    single_lists(book, &job);
+    single_several(book, &job);
+    single_tray(book, &job);
+}
+
+/// Other lengths of sheet and arguments.
+fn single_lists(book: &mut Book, job: &Job) {
+    for length in [0, 9, 10, 11, 13, 15, 20, 28] {
+        let table = job.table.iter().copied().cycle().take(length).collect();
+        book.single(&Job { table, ..job.clone() }, 8);
     }
+    for length in [0, 3, 5, 8] {
+        book.single(&Job { args: vec![0; length], ..job.clone() }, 8);
+    }
+    for rows in [0, 2] {
+        book.single(&Job { table: job.table.repeat(rows), args: vec![0; 4 * rows], ..job.clone() }, 8);
+    }
+}
+
+fn single_several(book: &mut Book, job: &Job) {
     for (a, first) in FAULTS {
         for (b, second) in FAULTS {
             if a < b && first.0 != second.0 {
                 let mut bad = job.clone();
                 set(&mut bad, 0, &[first, second]);
-                put(book, &bad, 8);
+                book.single(&bad, 8);
             }
         }
         let mut bad = job.clone();
         set(&mut bad, 0, &[first]);
-        put(book, &bad, 7);
-        put(book, &Job { channels: 2, ..bad.clone() }, 8);
-        put(book, &Job { args: vec![], channels: 2, ..bad }, 8);
+        book.single(&bad, 7);
+        book.single(&Job { channels: 2, ..bad.clone() }, 8);
+        book.single(&Job { args: vec![], channels: 2, ..bad }, 8);
     }
+}
+
+fn single_tray(book: &mut Book, job: &Job) {
     let shape = |width, height, channels, length| {
         let dst = job.dst.iter().copied().cycle().take(length).collect();
         Job { width, height, channels, dst, ..job.clone() }
@@ -280,6 +338,6 @@ fn single(book: &mut Book, four: &Job) {
         (0, 0, 1, 0, 0),
         (0, 0, 1, 0, 1),
     ] {
-        put(book, &shape(width, height, channels, length), out);
+        book.single(&shape(width, height, channels, length), out);
     }
 }

@@ -6,7 +6,7 @@ use super::layer::pairs;
 use crate::compare::{agrees, expected};
 use crate::lines::{Case, Reader, Request, ask, parts};
 use crate::model::Reference;
-use crate::request::{Memory, words};
+use crate::request::{COLUMNS, Job, Memory, WINDOW, words};
 use crate::restated::{Reading, Restated, Wrong};
 
 /// A case of each kind, small enough that its answer is spoiled number by number.
@@ -14,6 +14,8 @@ fn cases() -> Vec<Case> {
     let job = pairs(6, &[([0.25, 0.5, 0.75, 1.0], [0.5, 0.75, 1.0, 0.5])], &[]);
     let input = job.dst.clone();
     let memory = Memory { work: [vec![1; 4], vec![2; 4]], mark: vec![0] };
+    let mut bad = Job { layers: 2, table: job.table.repeat(2), args: vec![0; 8], ..job.clone() };
+    bad.table[COLUMNS + WINDOW] = -1;
     let requests = [
         Request::Name(b"Soft-Light".to_vec()),
         Request::Name(b"softer".to_vec()),
@@ -22,9 +24,11 @@ fn cases() -> Vec<Case> {
         Request::Bytes { wanted: 4, input, length: 4 },
         Request::Compose { job: job.clone(), length: 4 },
         Request::Compose { job: job.clone(), length: 5 },
+        Request::Compose { job: cleared(), length: 8 },
+        Request::Calls { job: bad, memory: memory.clone(), allowances: vec![5] },
         Request::Calls { job, memory, allowances: vec![3, 100, 0] },
-        Request::Card { text: super::cards::CARD.into(), table: 160, args: 64 },
-        Request::Card { text: super::cards::TRAY.trim_end().into(), table: 160, args: 64 },
+        Request::Card { text: super::cards::CARD.into(), table: 224, args: 64 },
+        Request::Card { text: super::cards::TRAY.trim_end().into(), table: 224, args: 64 },
     ];
     requests.into_iter().map(expected).collect()
 }
@@ -60,6 +64,50 @@ fn spoiled(asked: &str, answered: &str) -> Vec<String> {
     lines
 }
 
+/// A request as a line with the answer of a misreading.
+fn misread(request: Request, wrong: Wrong) -> String {
+    let expected = ask(&Restated { reading: Reading { wrong: Some(wrong) } }, &request);
+    let (asked, answered) = parts(&Case { request, expected });
+    asked + &answered
+}
+
+/// A layer that clears two pixels, the first a NaN pattern off its window.
+fn cleared() -> Job {
+    let mut job = pairs(16, &[([0.5; 4], [0.25; 4]); 2], &[]);
+    job.dst[0] = 0x7fc0_1234;
+    job.table[WINDOW..].copy_from_slice(&[1, 0, 1, 1]);
+    job
+}
+
+/// Windows: answers in which only a pixel off the window is wrong, a window of a card, or the refusal.
+fn windows() -> impl Iterator<Item = String> {
+    let job = cleared();
+    let table = [pairs(17, &[([0.5; 4], [0.25; 4]); 2], &[]).table, job.table.clone()].concat();
+    let stack = Job { layers: 2, table, args: vec![0; 8], ..job.clone() };
+    let memory = Memory { work: [vec![1; 8], vec![2; 8]], mark: vec![0] };
+    let mut bad = job.clone();
+    bad.table[WINDOW + 3] = 2049;
+    let ten = Job { table: job.table[..WINDOW].to_vec(), ..job.clone() };
+    let compose = |job: Job| Request::Compose { job, length: 8 };
+    let card = |table: usize| Request::Card { text: super::cards::CARD.into(), table, args: 64 };
+    let calls = Request::Calls { job: stack, memory, allowances: vec![8, 23] };
+    let asked: [(Request, &[Wrong]); 6] = [
+        (
+            compose(job),
+            &[Wrong::WindowNotSingle, Wrong::WindowClears, Wrong::WindowStoresNan, Wrong::WindowLeavesOutput],
+        ),
+        (calls, &[Wrong::WindowNotInJobs, Wrong::WindowShowsTray, Wrong::WindowLeavesWork, Wrong::WindowSavesStores]),
+        (compose(bad), &[Wrong::WindowCornerOnly]),
+        (compose(ten), &[Wrong::SingleTenNumbers]),
+        (
+            card(224),
+            &[Wrong::CardWindowEmpty, Wrong::CardWindowOfTray, Wrong::CardWindowLess, Wrong::CardWindowPastLayers],
+        ),
+        (card(160), &[Wrong::CardTenNumbers]),
+    ];
+    asked.into_iter().flat_map(|(request, wrongs)| wrongs.iter().map(move |wrong| misread(request.clone(), *wrong)))
+}
+
 /// The gray of a pixel as a word and as a byte, answered as deep.rs has it and document 02 does not.
 fn grays() -> impl Iterator<Item = String> {
     let input = words(&[0.25, 0.5, 0.75, 1.0]);
@@ -67,11 +115,7 @@ fn grays() -> impl Iterator<Item = String> {
         Request::Narrow { wanted: 1, input: input.clone(), length: 1 },
         Request::Bytes { wanted: 1, input, length: 1 },
     ];
-    asked.into_iter().map(|request| {
-        let outcome = ask(&Restated { reading: Reading { wrong: Some(Wrong::LumaWeights) } }, &request);
-        let (asked, answered) = parts(&Case { request, expected: outcome });
-        asked + &answered
-    })
+    asked.into_iter().map(|request| misread(request, Wrong::LumaWeights))
 }
 
 pub fn put(book: &mut Book) {
@@ -85,6 +129,7 @@ pub fn put(book: &mut Book) {
         let (asked, answered) = parts(&case);
         spoiled(&asked, &answered).iter().for_each(|line| put(line, false));
     }
+    windows().for_each(|line| put(&line, false));
     // By deep.rs as it is, these are right.
     grays().for_each(|line| put(&line, cfg!(feature = "unchanged")));
 }

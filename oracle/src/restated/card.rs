@@ -3,7 +3,7 @@
 
 use super::operator::NAMES;
 use super::wrong::{Reading, Wrong};
-use crate::request::{ARGUMENTS, COLUMNS, CardAnswer, LAYERS, NAN};
+use crate::request::{ARGUMENTS, COLUMNS, CardAnswer, LAYERS, NAN, WHOLE, WINDOW};
 
 struct Layer {
     row: [i64; COLUMNS],
@@ -213,7 +213,10 @@ impl<'a> Rest<'a> {
             return None;
         }
         let count = args.len() as i64;
-        Some(Layer { row: [operator, gravity, right, down, flags, start, width, height, channels, count], args })
+        let window = [0, 0, 2048, 2048];
+        let said = [operator, gravity, right, down, flags, start, width, height, channels, count];
+        let row = [&said[..], &window].concat().try_into().expect("ten numbers and four");
+        Some(Layer { row, args })
     }
 }
 
@@ -287,6 +290,8 @@ impl Reading {
         let (rows, words) = (LAYERS * COLUMNS, LAYERS * ARGUMENTS);
         let layers = said.layers.len();
         match self.wrong {
+            Some(Wrong::CardTenNumbers) => table == LAYERS * WINDOW && args == words,
+            Some(Wrong::CardTenNumbersToo) => [rows, LAYERS * WINDOW].contains(&table) && args == words,
             Some(Wrong::CardTableLonger) => table >= rows && args == words,
             Some(Wrong::CardArgumentsLonger) => table == rows && args >= words,
             Some(Wrong::CardTableOnly) => table == rows,
@@ -296,15 +301,34 @@ impl Reading {
         }
     }
 
-    fn card_row(self, layer: &Layer) -> [i64; COLUMNS] {
+    fn card_row(self, layer: &Layer, said: &Said) -> [i64; COLUMNS] {
         let mut row = layer.row;
+        let [width, height, _] = said.tray;
         match self.wrong {
             Some(Wrong::CardColumns(i)) => row.swap(i, i + 1),
-            Some(Wrong::CardCountMissing) => row[COLUMNS - 1] = 0,
-            Some(Wrong::CardCountFour) => row[COLUMNS - 1] = ARGUMENTS as i64,
+            Some(Wrong::CardCountMissing) => row[WINDOW - 1] = 0,
+            Some(Wrong::CardCountFour) => row[WINDOW - 1] = ARGUMENTS as i64,
+            Some(Wrong::CardWindowEmpty) => row[WINDOW..].fill(0),
+            Some(Wrong::CardWindowOfTray) => row[WINDOW..].copy_from_slice(&[0, 0, width, height]),
+            Some(Wrong::CardWindowOfSource) => row.copy_within(6..8, WINDOW + 2),
+            Some(Wrong::CardWindowTurned) => row[WINDOW..].rotate_left(2),
+            Some(Wrong::CardWindowLess) => row[WINDOW + 2..].fill(2047),
             _ => {}
         }
         row
+    }
+
+    /// A row of the table, where the card has a layer for it or not.
+    fn card_row_filled(self, layer: Option<&&Layer>, said: &Said, row: &mut [i64]) {
+        let numbers = layer.map(|layer| self.card_row(layer, said));
+        match (numbers, self.wrong) {
+            (Some(numbers), Some(Wrong::CardWindowKept)) => row[..WINDOW].copy_from_slice(&numbers[..WINDOW]),
+            (Some(numbers), _) => row.copy_from_slice(&numbers[..row.len().min(COLUMNS)]),
+            (None, Some(Wrong::CardRowsKept)) => {}
+            (None, Some(Wrong::CardWindowRowsKept)) => row[..WINDOW].fill(0),
+            (None, Some(Wrong::CardWindowPastLayers)) => row.copy_from_slice(&[&[0; WINDOW][..], &WHOLE].concat()),
+            (None, _) => row.fill(0),
+        }
     }
 
     fn card_filled(self, said: &Said, table: &mut [i64], args: &mut [u32]) {
@@ -312,12 +336,10 @@ impl Reading {
         if self.is(Wrong::CardUpsideDown) {
             layers.reverse();
         }
-        for (k, row) in table.chunks_mut(COLUMNS).enumerate() {
-            match layers.get(k) {
-                Some(layer) => row.copy_from_slice(&self.card_row(layer)),
-                None if self.is(Wrong::CardRowsKept) => {}
-                None => row.fill(0),
-            }
+        let ten = [Wrong::CardTenNumbers, Wrong::CardTenNumbersToo].map(|wrong| self.is(wrong)).contains(&true);
+        let columns = if ten && table.len() == LAYERS * WINDOW { WINDOW } else { COLUMNS };
+        for (k, row) in table.chunks_mut(columns).enumerate() {
+            self.card_row_filled(layers.get(k), said, row);
         }
         for (k, words) in args.chunks_mut(ARGUMENTS).enumerate() {
             let given = layers.get(k).map_or(&[][..], |layer| &layer.args);

@@ -1,8 +1,19 @@
-//! Document 01's table of faults: the bounds, and the order in which they are looked at.
+//! Document 01's table of faults with document 02's 13: the bounds, and the order in which they are looked at.
 
 use super::sites::Bound;
 use super::wrong::{Reading, Wrong};
-use crate::request::{ARGUMENTS, COLUMNS, Job, Memory};
+use crate::request::{ARGUMENTS, COLUMNS, Job, Memory, WINDOW};
+
+/// A fault and its layer.
+type Fault = (u64, u64);
+
+/// The bounds of a window's four numbers.
+const WINDOW_BOUNDS: [(Bound, Bound); 4] = [
+    (Bound::LeftLow, Bound::LeftHigh),
+    (Bound::TopLow, Bound::TopHigh),
+    (Bound::WindowWidthLow, Bound::WindowWidthHigh),
+    (Bound::WindowHeightLow, Bound::WindowHeightHigh),
+];
 
 impl Reading {
     /// `least <= n <= most`, each end a bound that may be misread by one.
@@ -59,8 +70,35 @@ impl Reading {
         }
     }
 
-    /// The first fault of a row, 0 for none.
-    fn row(self, row: &[i64], samples: usize) -> u64 {
+    /// Number `i` of a window.
+    fn window_number(self, i: usize, n: i64) -> bool {
+        let n = if self.is(Wrong::WindowLow32Bits) { n as i32 as i64 } else { n };
+        let (low, high) = WINDOW_BOUNDS[i];
+        match self.wrong {
+            Some(Wrong::WindowNegativeOnly) => n >= 0,
+            Some(Wrong::WindowLargeOnly) => n <= 2048,
+            Some(Wrong::WindowSidesOnly) if i < 2 => true,
+            Some(Wrong::WindowCornerOnly) if i >= 2 => true,
+            _ => self.within(n, (low, 0), (high, 2048)),
+        }
+    }
+
+    fn window_numbers(self, window: &[i64], job: &Job) -> bool {
+        if !(0..4).all(|i| self.window_number(i, window[i])) {
+            return false;
+        }
+        let (left, top, width, height) = (window[0], window[1], window[2], window[3]);
+        match self.wrong {
+            Some(Wrong::WindowSumRefused) => left + width <= 2048 && top + height <= 2048,
+            Some(Wrong::WindowPastTrayRefused) => left + width <= job.width && top + height <= job.height,
+            Some(Wrong::WindowOffTrayRefused) => left < job.width && top < job.height,
+            Some(Wrong::WindowEmptyRefused) => width > 0 && height > 0,
+            _ => true,
+        }
+    }
+
+    /// The checks of a row in their order, each with its number.
+    fn checks(self, row: &[i64], job: &Job) -> [(u64, bool); 7] {
         let known = self.within(row[0], (Bound::OperatorLow, 0), (Bound::OperatorHigh, 69));
         let placed = self.within(row[1], (Bound::GravityLow, 0), (Bound::GravityHigh, 9))
             && self.within(row[2], (Bound::RightLow, -1_000_000), (Bound::RightHigh, 1_000_000))
@@ -75,23 +113,28 @@ impl Reading {
             (4, !curve),
             (5, placed),
             (6, self.within(row[4], (Bound::FlagsLow, 0), (Bound::FlagsHigh, 63))),
-            (7, self.source(row, samples)),
+            (7, self.source(row, job.samples.len())),
             (8, self.within(row[9], (Bound::CountLow, 0), (Bound::CountHigh, 4))),
+            (13, self.window_numbers(&row[WINDOW..], job)),
         ];
-        if let Some(Wrong::RowOrder(i)) = self.wrong {
-            checks.swap(i, i + 1);
+        match self.wrong {
+            Some(Wrong::RowOrder(i)) => checks.swap(i, i + 1),
+            Some(Wrong::RowBackwards) => checks.reverse(),
+            Some(Wrong::WindowFirst) => checks.rotate_right(1),
+            _ => {}
         }
-        if self.is(Wrong::RowBackwards) {
-            checks.reverse();
-        }
-        checks.iter().find(|(_, good)| !good).map_or(0, |(number, _)| *number)
+        checks
     }
 
-    fn rows(self, job: &Job) -> Option<(u64, u64)> {
-        let faults: Vec<(u64, u64)> = (job.table.chunks_exact(COLUMNS).enumerate())
-            .map(|(k, row)| (self.row(row, job.samples.len()), k as u64))
+    /// The first fault of the rows, of the numbers that are looked for.
+    fn rows(self, job: &Job, looked_for: impl Fn(u64) -> bool) -> Option<Fault> {
+        let first = |row: &[i64]| {
+            let mut checks = self.checks(row, job).into_iter();
+            checks.find(|(number, good)| !good && looked_for(*number)).map(|(number, _)| number)
+        };
+        let faults: Vec<Fault> = (job.table.chunks_exact(COLUMNS).enumerate())
             .take(if self.is(Wrong::FirstLayerOnly) { 1 } else { usize::MAX })
-            .filter(|(number, _)| *number != 0)
+            .filter_map(|(k, row)| first(row).map(|number| (number, k as u64)))
             .collect();
         let (number, layer) = match self.wrong {
             Some(Wrong::LayersByNumber) => faults.iter().copied().min(),
@@ -105,8 +148,29 @@ impl Reading {
         }
     }
 
-    /// Faults 1 to 8.
-    pub fn inputs(self, job: &Job) -> Option<(u64, u64)> {
+    /// Fault 13 of the rows.
+    fn windows(self, job: &Job) -> Option<Fault> {
+        self.rows(job, |number| number == 13)
+    }
+
+    /// Faults 3 to 8 and 13.
+    fn layers(self, job: &Job) -> Option<Fault> {
+        let others = || self.rows(job, |number| number != 13);
+        match self.wrong {
+            Some(Wrong::WindowsAfterLayers) => others().or_else(|| self.windows(job)),
+            Some(Wrong::WindowsBeforeLayers) => self.windows(job).or_else(others),
+            Some(Wrong::WindowsAfterWork | Wrong::WindowsAfterMark) => others(),
+            _ => self.rows(job, |_| true),
+        }
+    }
+
+    /// Fault 13 out of its place, where one of these misreadings looks at it.
+    pub fn windows_by(self, job: &Job, wrongs: &[Wrong]) -> Option<Fault> {
+        if wrongs.iter().any(|wrong| self.is(*wrong)) { self.windows(job) } else { None }
+    }
+
+    /// Faults 1 to 8 and 13.
+    pub fn inputs(self, job: &Job) -> Option<Fault> {
         let (stack, tray) = (self.stack(job), self.tray(job));
         if self.is(Wrong::TrayBeforeStack) && !tray {
             return Some((2, 0));
@@ -114,13 +178,16 @@ impl Reading {
         if !stack {
             return Some((1, 0));
         }
+        if let Some(fault) = self.windows_by(job, &[Wrong::WindowsBeforeTray]) {
+            return Some(fault);
+        }
         if self.is(Wrong::LayersBeforeTray) && !tray {
-            return self.rows(job).or(Some((2, 0)));
+            return self.layers(job).or(Some((2, 0)));
         }
         if !tray {
             return Some((2, 0));
         }
-        self.rows(job)
+        self.layers(job)
     }
 
     fn work(self, job: &Job, memory: &Memory) -> bool {
@@ -148,14 +215,15 @@ impl Reading {
     }
 
     /// Every fault of a job's call.
-    pub fn fault(self, job: &Job, memory: &Memory) -> Option<(u64, u64)> {
+    pub fn fault(self, job: &Job, memory: &Memory) -> Option<Fault> {
         let (work, mark) = (self.work(job, memory), || self.mark(job, memory));
         let layer = if self.is(Wrong::LayerOfMemory) { job.layers.wrapping_sub(1) as u64 } else { 0 };
         let lent = || match () {
             _ if self.is(Wrong::MarkBeforeWork) && !mark() => Some((10, layer)),
             _ if !work => Some((9, layer)),
+            _ if self.windows_by(job, &[Wrong::WindowsAfterWork]).is_some() => self.windows(job),
             _ if !mark() || self.is(Wrong::EveryJobRefused) => Some((10, layer)),
-            _ => None,
+            _ => self.windows_by(job, &[Wrong::WindowsAfterMark]),
         };
         if self.is(Wrong::WorkBeforeLayers) && self.stack(job) && self.tray(job) && !work {
             return Some((9, 0));

@@ -2,8 +2,9 @@
 //! pixel (e mod 5N) / 5 and there to the channel or the mark e mod 5.
 
 use super::place::{Beneath, Row};
+use super::window::holds;
 use super::wrong::{Reading, Wrong};
-use crate::request::{Answer, Job, Memory};
+use crate::request::{Answer, Job, Memory, WHOLE};
 
 /// What the stores of a call are made from.
 struct Stores<'a> {
@@ -30,18 +31,34 @@ impl Stores<'_> {
             let at = i as usize * 4;
             return self.widened[at..at + 4].try_into().unwrap();
         }
-        let row = match reading.wrong {
-            Some(Wrong::LayersFromTop) => &self.rows[self.rows.len() - phase as usize],
-            _ => &self.rows[phase as usize - 1],
-        };
+        let row = self.row(phase);
         let words = match reading.wrong {
             Some(Wrong::FirstLayerReadsTray) if phase == 1 => &self.widened,
             Some(Wrong::EveryLayerReadsTray) => &self.widened,
             Some(Wrong::MapReadsWritten) if row.op.is_map() => &memory.work[self.target(phase)],
             _ => &memory.work[self.target(phase - 1)],
         };
-        let beneath = Beneath { width: self.job.width, height: self.job.height, words };
-        reading.cell(row, &beneath, i % self.job.width, i / self.job.width)
+        let over = |words| Beneath { width: self.job.width, height: self.job.height, words };
+        let (x, y) = (i % self.job.width, i / self.job.width);
+        match reading.wrong {
+            Some(Wrong::WindowShowsTray) if self.off_window(phase, i) => over(&self.widened).at(x, y),
+            Some(Wrong::WindowLeavesWork) if self.off_window(phase, i) => {
+                over(&memory.work[self.target(phase)]).at(x, y)
+            }
+            _ => reading.cell(row, &over(words), x, y),
+        }
+    }
+
+    fn row(&self, phase: u64) -> &Row<'_> {
+        match self.reading.wrong {
+            Some(Wrong::LayersFromTop) => &self.rows[self.rows.len() - phase as usize],
+            _ => &self.rows[phase as usize - 1],
+        }
+    }
+
+    /// Whether pixel `i` is off the window of a phase's layer.
+    fn off_window(&self, phase: u64, i: i64) -> bool {
+        phase > 0 && !holds(self.row(phase).window, i % self.job.width, i / self.job.width)
     }
 
     /// One store of the pixel at the mark: part 0 to 3 a channel, part 4 the mark.
@@ -88,7 +105,10 @@ impl Reading {
     pub fn accepted(self, job: &Job, allowance: u64, memory: &mut Memory) -> Answer {
         let pixels = (job.width * job.height) as u64;
         let end = (job.layers as u64 + 1) * pixels;
-        let rows = (0..job.layers as usize).map(|k| self.layer(job, k)).collect();
+        let mut rows: Vec<Row> = (0..job.layers as usize).map(|k| self.layer(job, k)).collect();
+        if self.is(Wrong::WindowNotInJobs) {
+            rows.iter_mut().for_each(|row| row.window = WHOLE);
+        }
         let stores = Stores { reading: self, job, rows, widened: self.widened_dst(job), pixels };
         let start = memory.mark[0];
         let left = (end - start) * 5;
@@ -120,8 +140,10 @@ impl Reading {
             }
             return made;
         }
-        if self.is(Wrong::WholeStackAtOnce) {
-            return self.at_once(stores, entries, memory);
+        match self.wrong {
+            Some(Wrong::WholeStackAtOnce) => return self.at_once(stores, entries, memory),
+            Some(Wrong::WindowSavesStores) => return self.sparing(stores, entries, memory),
+            _ => {}
         }
         for i in 0..entries {
             stores.store(i % 5, memory);
@@ -141,6 +163,20 @@ impl Reading {
         }
         memory.mark[0] = start + entries / 5;
         entries
+    }
+
+    /// A pixel off its layer's window counted as the mark's store alone.
+    fn sparing(self, stores: &Stores, entries: u64, memory: &mut Memory) -> u64 {
+        let end = (stores.job.layers as u64 + 1) * stores.pixels;
+        let mut made = 0;
+        while made < entries && memory.mark[0] < end {
+            let (phase, place) = (memory.mark[0] / stores.pixels, memory.mark[0] % stores.pixels);
+            let spared = stores.off_window(phase, place as i64);
+            let parts = if spared { 5 } else { (entries - made).min(5) };
+            (0..parts).for_each(|part| stores.store(part, memory));
+            made += if spared { 1 } else { parts };
+        }
+        made
     }
 
     fn answer(self, job: &Job, allowance: u64, made: u64, start: u64, memory: &Memory) -> Answer {

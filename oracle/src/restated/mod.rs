@@ -1,6 +1,6 @@
 //! Document 01 worked out a second time, with no line of the Rust: float steps, operators, placing, names,
-//! narrowing, faults and the job, one store after the other; the gray and the card as document 02 has them. Each place where
-//! a reader may go wrong has a switch (`wrong.rs`); with none set this agrees with the Rust and its model on
+//! narrowing, faults and the job, one store after the other; the gray, the card and the window as document 02 has them. Each
+//! place where a reader may go wrong has a switch (`wrong.rs`); with none set this agrees with the Rust and its model on
 //! every request.
 
 // A negated comparison is another one where an operand is NaN, and some misreadings are just that.
@@ -20,12 +20,12 @@ mod pixel;
 mod place;
 mod sites;
 mod steps;
+mod window;
 pub mod wrong;
 
 pub use wrong::{Reading, Wrong};
 
 use crate::request::{Answer, CardAnswer, Job, Memory, Side};
-use place::Beneath;
 
 /// This module as a side of a comparison.
 pub struct Restated {
@@ -40,6 +40,7 @@ impl Side for Restated {
     fn compose(&self, job: &Job, out: &mut [u32]) -> u64 {
         let reading = self.reading;
         let job = Job { layers: 1, ..job.clone() };
+        let job = reading.sheet(&job, Wrong::SingleTenNumbers);
         if let Some((number, _)) = reading.inputs(&job) {
             return number;
         }
@@ -47,13 +48,10 @@ impl Side for Restated {
         if out.len() as i64 != job.width * job.height * channels {
             return 9;
         }
-        let words = reading.widened_dst(&job);
-        let beneath = Beneath { width: job.width, height: job.height, words: &words };
-        let row = reading.layer(&job, 0);
-        for i in 0..job.width * job.height {
-            let cell = reading.cell(&row, &beneath, i % job.width, i / job.width);
-            out[i as usize * 4..][..4].copy_from_slice(&cell);
+        if let Some((number, _)) = reading.windows_by(&job, &[Wrong::WindowsAfterWork, Wrong::WindowsAfterMark]) {
+            return number;
         }
+        reading.single(&job, out);
         0
     }
 
@@ -78,6 +76,7 @@ impl Side for Restated {
     }
 
     fn call(&self, job: &Job, allowance: u64, memory: &mut Memory) -> Answer {
+        let job = &*self.reading.sheet(job, Wrong::JobTenNumbers);
         match self.reading.fault(job, memory) {
             Some((number, layer)) => {
                 if self.reading.is(Wrong::RefusalResetsMark) {

@@ -1,12 +1,14 @@
-//! One cell of a layer's result: where the source lands, what is written and what is kept, and the two maps.
+//! One cell of a layer's result: where the source lands, what is written and what is kept, and the two maps. The window is
+//! in window.rs.
 
 use super::operator::Op;
 use super::pixel::Pixel;
 use super::sites::{Clamp, Default};
 use super::wrong::{Reading, Wrong};
-use crate::request::NAN;
+use crate::request::{NAN, Window};
 
 /// A layer, read from its row of the table.
+#[derive(Clone)]
 pub struct Row<'a> {
     pub op: Op,
     pub gravity: i64,
@@ -18,6 +20,7 @@ pub struct Row<'a> {
     pub channels: i64,
     pub source: &'a [u32],
     pub args: Vec<f32>,
+    pub window: Window,
 }
 
 /// The picture beneath: four words a pixel.
@@ -39,15 +42,16 @@ fn values(words: [u32; 4]) -> Pixel {
     words.map(f32::from_bits)
 }
 
-fn stored(v: f32) -> u32 {
+pub fn stored(v: f32) -> u32 {
     if v.is_nan() { NAN } else { v.to_bits() }
 }
 
 /// What a pixel of the source is for a cell.
-enum Spot {
+pub enum Spot {
     On(i64, i64),
     Off,
     Kept,
+    OffWindow,
 }
 
 impl Reading {
@@ -77,7 +81,8 @@ impl Reading {
     }
 
     /// The corner of a source on a destination.
-    fn corner(self, row: &Row, beneath: &Beneath) -> (i64, i64) {
+    pub fn corner(self, row: &Row, beneath: &Beneath) -> (i64, i64) {
+        let [left, top, width, height] = self.ground(row, beneath);
         let along = |part: i64, tray: i64, source: i64| match part {
             0 => 0,
             1 => self.centre(tray, source),
@@ -93,8 +98,8 @@ impl Reading {
         if row.gravity == 0 && self.is(Wrong::GravityNoneCentre) {
             (column, line) = (1, 1);
         }
-        let x = along(column, beneath.width, row.width);
-        let y = along(line, beneath.height, row.height);
+        let x = left + along(column, width, row.width);
+        let y = top + along(line, height, row.height);
         match self.wrong {
             Some(Wrong::OffsetOnlyWithoutGravity) if row.gravity != 0 => (x, y),
             Some(Wrong::OffsetTurned) => (x + row.down, y + row.right),
@@ -107,7 +112,8 @@ impl Reading {
         }
     }
 
-    fn spot(self, row: &Row, beneath: &Beneath, x: i64, y: i64) -> Spot {
+    /// Where the source lands, whatever the window is.
+    fn landing(self, row: &Row, beneath: &Beneath, x: i64, y: i64) -> Spot {
         let (left, top) = self.corner(row, beneath);
         let (mut sx, mut sy) = (x - left, y - top);
         let some = row.width > 0 && row.height > 0;
@@ -133,6 +139,15 @@ impl Reading {
         }
     }
 
+    fn spot(self, row: &Row, beneath: &Beneath, x: i64, y: i64) -> Spot {
+        let landing = self.landing(row, beneath, x, y);
+        match self.in_window(row, beneath, &landing, (x, y)) {
+            true => landing,
+            false if row.flags & 2 != 0 && self.is(Wrong::WindowOffSource) => Spot::Off,
+            false => Spot::OffWindow,
+        }
+    }
+
     /// A cell of the layer's result.
     pub fn cell(self, row: &Row, beneath: &Beneath, x: i64, y: i64) -> [u32; 4] {
         let under = beneath.at(x, y);
@@ -142,6 +157,7 @@ impl Reading {
             Spot::Off => [0; 4],
             Spot::Kept if self.is(Wrong::KeptPixelStored) => return values(under).map(stored),
             Spot::Kept => return under,
+            Spot::OffWindow => return self.off_window(row, beneath, (x, y)),
         };
         let (s, d) = (values(source), values(under));
         let op = match self.wrong {
@@ -159,7 +175,7 @@ impl Reading {
         }
         let mut out = under;
         for c in 0..4 {
-            if self.on(row.flags, c) {
+            if self.on(row.flags, c) || self.window_writes(row, beneath) {
                 out[c] = self.word(result[c], source[c], under[c]);
             } else if self.is(Wrong::KeptChannelStored) {
                 out[c] = stored(d[c]);
@@ -203,7 +219,7 @@ impl Reading {
         let px = place(x, s[0], across, beneath.width);
         let py = place(y, s[1], down, beneath.height);
         let (px, py) = if self.is(Wrong::MapTurned) { (py, px) } else { (px, py) };
-        let mut out = self.bilinear(beneath, px, py);
+        let mut out = self.bilinear(row, beneath, px, py);
         if self.is(Wrong::MapKeepsAlpha) {
             out[3] = d[3];
         }
@@ -229,10 +245,10 @@ impl Reading {
         }
     }
 
-    fn bilinear(self, beneath: &Beneath, px: f32, py: f32) -> Pixel {
+    fn bilinear(self, row: &Row, beneath: &Beneath, px: f32, py: f32) -> Pixel {
         let (x0, x1, fx) = self.axis(px, beneath.width);
         let (y0, y1, fy) = self.axis(py, beneath.height);
-        let at = |x: i64, y: i64| values(beneath.at(x, y));
+        let at = |x: i64, y: i64| values(self.read(row, beneath, x, y));
         let (p00, p10, p01, p11) = (at(x0, y0), at(x1, y0), at(x0, y1), at(x1, y1));
         let mut out = [0.0; 4];
         for c in 0..4 {

@@ -31,5 +31,6 @@ sites! {
     /// The bounds of the table of faults.
     Bound: LayersLow LayersHigh WidthLow WidthHigh HeightLow HeightHigh OperatorLow OperatorHigh GravityLow GravityHigh
         RightLow RightHigh DownLow DownHigh FlagsLow FlagsHigh SourceWidthLow SourceWidthHigh SourceHeightLow
-        SourceHeightHigh CountLow CountHigh;
+        SourceHeightHigh CountLow CountHigh LeftLow LeftHigh TopLow TopHigh WindowWidthLow WindowWidthHigh WindowHeightLow
+        WindowHeightHigh;
 }

@@ -308,15 +308,15 @@ misreadings! {
     SourcePixelsOnly "the channels are left out of the product"
     InterpolateCarried "Interpolate is accepted"
     BlurCarried "Blur is accepted"
-    RowBackwards "a layer's faults looked at from 8 to 3"
+    RowBackwards "a layer's faults looked at from 13 and 8 to 3"
     LayersByNumber "the smallest number of all layers"
     LastLayerFirst "layers looked at from the last"
     FirstLayerOnly "only the first layer is looked at"
     LayerFromOne "layers counted from 1"
     LayerUnnamed "the layer is always 0"
     TrayBeforeStack "2 before 1"
-    LayersBeforeTray "3 to 8 before 2"
-    WorkBeforeLayers "9 before 3 to 8"
+    LayersBeforeTray "3 to 8 and 13 before 2"
+    WorkBeforeLayers "9 before 3 to 8 and 13"
     MarkBeforeWork "10 before 9"
     LayerOfMemory "9 and 10 answer the last layer"
     EveryJobRefused "every job is refused"
@@ -334,6 +334,73 @@ misreadings! {
     NarrowPartPixel "an input that is no multiple of 4 is accepted"
     NarrowLonger "a longer output is accepted"
     NarrowTwoChannels "two channels may be wanted";
+
+    "a window's pixels":
+    WindowRightInside "the column at left + width is in the window"
+    WindowBottomInside "the row at top + height is in the window"
+    WindowLeftOutside "the column at left is off the window"
+    WindowTopOutside "the row at top is off the window"
+    WindowSidesTurned "width and height exchanged"
+    WindowCornerTurned "left and top exchanged"
+    WindowEnds "width and height are the first column and row past the window"
+    WindowLastPixel "width and height are the last column and row of the window"
+    WindowColumnsOnly "a window cuts columns only"
+    WindowRowsOnly "a window cuts rows only"
+    WindowEither "a pixel is in the window by its column or its row"
+    WindowTurnedRound "a layer writes off its window"
+    WindowEmptyPaints "an empty window is no window"
+    WindowOfZerosPaints "a window of four zeros is no window"
+    WindowZeroIsOpen "a width or height of 0 has no end"
+    WindowFromCorner "the window is counted from the source's corner"
+    WindowOfSource "the window is one of the source's pixels"
+    WindowOfLayerBelow "a layer has the window of the layer below"
+    WindowOfLayerAbove "a layer has the window of the layer above"
+    WindowOfFirstLayer "every layer has the first layer's window"
+    WindowOnFirstLayerOnly "only the first layer has a window"
+    WindowNested "a layer's window is cut by those of the layers below";
+
+    "what a window cuts":
+    WindowOverlayPaints "overlay paints off the window, where there is no source"
+    WindowOffSource "off the window is off the source, and overlay paints it"
+    WindowTilePaints "tiles paint off the window"
+    WindowNotOnMaps "a map layer has no window"
+    WindowNotSingle "a single composition has no window"
+    WindowNotInJobs "a job's layers have no window"
+    WindowWritesChannels "in a window that cuts every channel is written, whatever its flag"
+    WindowOverColours "the window keeps colours, and alpha is written off it"
+    WindowClampsMaps "a map's neighbours are clamped to the window"
+    WindowBlanksMaps "a map reads zeros off the window"
+    WindowGravity "gravity by the window's sides"
+    WindowOrigin "the source is placed from the window's corner"
+    WindowPlaces "the source is placed in the window as if it were the tray"
+    WindowTiles "tiles start at the window's corner";
+
+    "what is kept off a window":
+    WindowClears "off the window is 0"
+    WindowStoresNan "a NaN off the window becomes 7FC00000"
+    WindowShowsTray "off the window is the tray, not the picture beneath"
+    WindowLeavesWork "off the window the work picture keeps what it had"
+    WindowLeavesOutput "off the window the output keeps what it had"
+    WindowSavesStores "a pixel off the window is the mark's store alone";
+
+    "refusals of windows":
+    JobTenNumbers "a job's sheet of ten numbers a layer is accepted"
+    SingleTenNumbers "a single composition's sheet of ten numbers is accepted"
+    WindowFirst "13 before 3 in its layer"
+    WindowsBeforeTray "13 before 2"
+    WindowsBeforeLayers "every layer's 13 before the first layer's 3"
+    WindowsAfterLayers "13 after every layer's 8"
+    WindowsAfterWork "13 after 9"
+    WindowsAfterMark "13 after 10"
+    WindowNegativeOnly "only a negative window number is 13"
+    WindowLargeOnly "only a window number over 2,048 is 13"
+    WindowSidesOnly "left and top are not looked at"
+    WindowCornerOnly "width and height are not looked at"
+    WindowLow32Bits "only the low 32 bits of a window number are looked at"
+    WindowSumRefused "a window that ends past 2,048 is 13"
+    WindowPastTrayRefused "a window that reaches past the tray is 13"
+    WindowOffTrayRefused "a window that starts off the tray is 13"
+    WindowEmptyRefused "an empty window is 13";
 
     "the job":
     WorkExchanged "the two work pictures exchanged"
@@ -426,6 +493,14 @@ misreadings! {
     CardCountsLines "the count of layers is the count of lines"
     CardRowsKept "rows past the last layer keep what they had"
     CardArgumentRowsKept "arguments past the last layer keep what they had"
+    CardWindowEmpty "a card's windows are 0, 0, 0, 0"
+    CardWindowOfTray "a card's windows have the tray's sides"
+    CardWindowOfSource "a card's windows have the sources' sides"
+    CardWindowTurned "a card's windows are 2,048, 2,048, 0, 0"
+    CardWindowLess "a card's windows are 0, 0, 2,047, 2,047"
+    CardWindowKept "a card's windows are not filled"
+    CardWindowRowsKept "windows past the last layer keep what they had"
+    CardWindowPastLayers "rows past the last layer have a window"
     CardLineOfAccepted "an accepted card answers its last line";
 
     "refusals of a card":
@@ -443,6 +518,8 @@ misreadings! {
     CardLayersOfRefused "a refused card answers the layers that were read"
     CardLengthsLast "the lists' lengths looked at after the lines"
     CardLengthsAtOne "another length answers line 1"
+    CardTenNumbers "the table has ten numbers a layer"
+    CardTenNumbersToo "a table of ten numbers a layer is accepted too"
     CardTableLonger "a longer table is accepted"
     CardArgumentsLonger "a longer list of arguments is accepted"
     CardTableOnly "the arguments' length is not looked at"
@@ -487,13 +564,14 @@ pub fn all() -> Vec<(Wrong, &'static str, String)> {
         add(Wrong::Strict(bound), "refusals", "this bound one too strict");
         add(Wrong::Loose(bound), "refusals", "this bound one too loose");
     }
-    for i in 0..5 {
-        add(Wrong::RowOrder(i), "refusals", "faults 3 + i and 4 + i of a layer in the other order");
+    for i in 0..6 {
+        add(Wrong::RowOrder(i), "refusals", "checks i and i + 1 of a layer's 3 to 8 and 13 in the other order");
     }
     for i in 0..2 {
         add(Wrong::CardShape(i), "what a card fills", "the tray's numbers i and i + 1 exchanged");
     }
-    for i in 0..9 {
+    // Columns 10 and 11 are alike, and so are 12 and 13.
+    for i in (0..13).filter(|i| ![10, 12].contains(i)) {
         add(Wrong::CardColumns(i), "what a card fills", "columns i and i + 1 exchanged");
     }
     all

@@ -1,5 +1,6 @@
-//! Draws the pictures of the demonstration: an empty 96-well tray, the wells' own pictures, each a disc of a soil extract
-//! whose blue grows with its phosphate, and six files of sixteen layers that lay them, two columns each.
+//! Draws the pictures of the demonstration: an empty tray of 96 square wells, the wells' own pictures, each of a soil extract
+//! whose blue grows with its phosphate, and six files of sixteen layers that lay them, two columns each. A well's picture has the
+//! well's rim too, stained; its layer has a window, which is the well's floor, so that the rim of the tray itself stays.
 
 use anyhow::{Context, Result};
 use clap::Parser;
@@ -15,7 +16,7 @@ use tray_cli::{pfm, png_file};
 #[command(
     name = "wells",
     version,
-    about = "Draws the pictures of the demonstration: tray.png, an empty 96-well tray; well_A01.png to well_H12.png (some rows are .pfm), a disc of soil extract each; layers_1.txt to layers_6.txt, which lay them for `tray make --layers`"
+    about = "Draws the pictures of the demonstration: tray.png, an empty 96-well tray; well_A01.png to well_H12.png (some rows are .pfm), a soil extract and a stained rim each; layers_1.txt to layers_6.txt, which lay them for `tray make --layers`, each within its well's window"
 )]
 struct Wells {
     /// The folder to draw into; it is made if it is not there
@@ -26,10 +27,11 @@ const COLUMNS: usize = 12;
 const ROWS: usize = 8;
 const PITCH: usize = 96;
 const MARGIN: usize = 48;
+/// A side of a well with its rim, which is that of its picture, and of its floor, which is that of its window.
 const WELL: usize = 84;
-const RADIUS: f32 = 39.0;
+const FLOOR: usize = 76;
 
-/// The operator of each row. Those in capitals have their source as a PFM: no alpha, white around the disc.
+/// The operator of each row. Those in capitals have their source as a PFM: no alpha, the rim mixed with white.
 const OPERATORS: [&str; ROWS] =
     ["over", "MULTIPLY", "atop", "color-burn", "DARKEN", "linear-burn", "DARKEN-INTENSITY", "over"];
 
@@ -47,24 +49,34 @@ fn cover(distance: f32, radius: f32) -> f32 {
     (radius + 0.5 - distance).clamp(0.0, 1.0)
 }
 
-fn distance(x: usize, y: usize, middle: (f32, f32)) -> f32 {
-    (x as f32 + 0.5 - middle.0).hypot(y as f32 + 0.5 - middle.1)
+/// Whether a pixel this far right and down from the middle of a square with this side lies in it.
+fn inside((right, down): (f32, f32), side: usize) -> bool {
+    right.abs().max(down.abs()) < side as f32 / 2.0
 }
 
-/// The empty tray: light plastic with a rim and a floor for each well.
+/// From the middle of a well to the middle of a pixel of the tray, right and down, and the well's column; none in the margin.
+fn well(x: usize, y: usize) -> Option<((f32, f32), usize)> {
+    let (x, y) = (x.checked_sub(MARGIN)?, y.checked_sub(MARGIN)?);
+    let from = |n: usize| (n % PITCH) as f32 + 0.5 - PITCH as f32 / 2.0;
+    (x < COLUMNS * PITCH && y < ROWS * PITCH).then(|| ((from(x), from(y)), x / PITCH))
+}
+
+/// The empty tray: light plastic with a rim and a floor for each well. The rims have a dark and a light side; those of the known
+/// dilutions are orange.
 fn plate(x: usize, y: usize, width: usize, height: usize) -> [f32; 3] {
     let slope = 0.03 * (x as f32 / width as f32 + y as f32 / height as f32);
     let edge = x.min(y).min(width - 1 - x).min(height - 1 - y) as f32;
-    let mut light = 0.86 - slope - 0.25 * cover(edge, 3.0);
-    if x >= MARGIN && y >= MARGIN && x < width - MARGIN && y < height - MARGIN {
-        let (left, top) = ((x - MARGIN) / PITCH * PITCH + MARGIN, (y - MARGIN) / PITCH * PITCH + MARGIN);
-        let middle = ((left + PITCH / 2) as f32, (top + PITCH / 2) as f32);
-        let far = distance(x, y, middle);
-        let shade = (x as f32 - middle.0 + y as f32 - middle.1) / 90.0;
-        let rim = cover(far, RADIUS + 4.0) - cover(far, RADIUS);
-        light += rim * (0.16 * shade - 0.12) + cover(far, RADIUS) * 0.1;
+    let light = 0.86 - slope - 0.25 * cover(edge, 3.0);
+    let gray = |light: f32| [light, light, light + 0.01];
+    match well(x, y) {
+        Some((from, _)) if inside(from, FLOOR) => gray(light + 0.1),
+        Some((from, column)) if inside(from, WELL) => {
+            let shaded = light + 0.1 * (from.0 + from.1).signum() - 0.16;
+            let colour = if column == COLUMNS - 1 { [1.0, 0.62, 0.2] } else { [1.0; 3] };
+            colour.map(|part| part * shaded)
+        }
+        _ => gray(light),
     }
-    [light, light, light + 0.01]
 }
 
 /// Phosphate from 0 to 1: a field's slope with some scatter; the last column has the known dilutions.
@@ -76,15 +88,18 @@ fn phosphate(column: usize, row: usize) -> f32 {
     (slope + 0.35 * (noise(column, row, 2) - 0.5)).clamp(0.02, 0.95)
 }
 
-/// A well's pixel: colour, and how much of it the disc covers.
+/// A well's pixel: colour, and how much of it is covered. The rim is stained, darker than the extract.
 fn extract(x: usize, y: usize, column: usize, row: usize) -> ([f32; 3], f32) {
-    let middle = WELL as f32 / 2.0;
-    let far = distance(x, y, (middle, middle));
-    let depth = phosphate(column, row) * (1.0 - 0.25 * (far / RADIUS).powi(4));
+    let from = (x as f32 + 0.5 - WELL as f32 / 2.0, y as f32 + 0.5 - WELL as f32 / 2.0);
+    let far = (from.0.powi(4) + from.1.powi(4)).sqrt().sqrt();
+    let depth = phosphate(column, row) * (1.0 - 0.25 * (2.0 * far / FLOOR as f32).powi(4).min(1.0));
     let light = 1.0 + 0.004 * (noise(x, y, 96 + row * COLUMNS + column) - 0.5);
-    let glint = 0.35 * cover(distance(x, y, (middle - 14.0, middle - 16.0)), 5.0);
+    let glint = 0.35 * cover((from.0 + 16.0).hypot(from.1 + 18.0), 5.0);
     let absorbed = [2.6, 1.15, 0.28].map(|k: f32| 0.97 * light * (-k * depth).exp());
-    (absorbed.map(|v| (v + glint * (1.0 - v)).clamp(0.0, 1.0)), cover(far, RADIUS))
+    match inside(from, FLOOR) {
+        true => (absorbed.map(|v| (v + glint * (1.0 - v)).clamp(0.0, 1.0)), 1.0),
+        false => (absorbed.map(|v| 0.4 * v), 0.8),
+    }
 }
 
 fn byte(v: f32) -> u8 {
@@ -126,10 +141,11 @@ fn draw(words: Wells) -> Result<Exit> {
         let mut lines = String::new();
         for (column, row) in (2 * job..2 * job + 2).flat_map(|column| (0..ROWS).map(move |row| (column, row))) {
             let name = draw_well(folder, column, row)?;
-            let inset = (PITCH - WELL) / 2;
-            let at = |n: usize| MARGIN + n * PITCH + inset;
+            // The upper left corner of what has this side in the middle of the well.
+            let corner = |side: usize| [column, row].map(|n| MARGIN + n * PITCH + (PITCH - side) / 2);
+            let ([right, down], [left, top]) = (corner(WELL), corner(FLOOR));
             let operator = OPERATORS[row].to_ascii_lowercase();
-            lines += &format!("{operator} {name} at={},{}\n", at(column), at(row));
+            lines += &format!("{operator} {name} at={right},{down} window={left},{top},{FLOOR},{FLOOR}\n");
         }
         create(folder, &format!("layers_{}.txt", job + 1))?.write_all(lines.as_bytes())?;
     }

@@ -1,13 +1,15 @@
--- `cards::lines::lines` meets its contract. The invariant: k lines are read, and what is left to read leaves what all of them leave. The measure is how many
--- lines there may still be. Assumes nothing.
+-- `cards::lines::lines` meets its contract. The invariant: k lines are read, each with its window, and what is left to read leaves what all of them leave. The
+-- measure is how many lines there may still be. Assumes nothing.
 use mathlib.Core.Path.{_≡_, refl, sym, ap, _∙_}
 use Prim.Native.Nat.{_-_, _≤_}
 use native.Mathlib.Omega.{arith}
 use borrow.Author.Needs.{needs}
 use lib.ListN.{length, drop}
 use Rattle.cards.specs.Card.{readLines}
+use Rattle.cards.specs.Answers.{fullWindow}
 use Rattle.cards.specs.Steps.{countedIn, reach}
 use Rattle.cards.proofs.Counting.{left, begun, too-many, out-of-form, in-form, ended}
+use Rattle.cards.proofs.Puts.{put-length}
 use Rattle.cards.proofs.lines.lines.Statement.{statement}
 use Rattle.cards.proofs.lines.lines.Tie as tie
 
@@ -70,19 +72,38 @@ returns-2 c =
       (table-long r, args-long r),
     )
 
+-- from where a line's window is put: where the line was taken, and where it was read
+abbrev taken : tie.After-full-window-arg Inv-loop μ-loop → tie.After-next Inv-loop μ-loop
+taken c = c .before .before
+
+abbrev read : tie.After-full-window-arg Inv-loop μ-loop → tie.After-scan Inv-loop μ-loop
+read c = line (taken c .before .before)
+
+full-window-requires : tie.Need-full-window-requires Inv-loop μ-loop
+full-window-requires c κs = omega (arith, table-long (read c), more (read c) .if1 .left)
+
+-- the table with the window has kept its length, too
+full-long : (c : tie.After-full-window Inv-loop μ-loop)
+    → length (c .full-window .last .0) ≡ length (start (turn (read (c .before))) .args .table .now)
+full-long c =
+    let r = read (c .before) in
+    ap length (c .full-window .ensures) ∙ put-length (r .scan .last .1 .1 .1 .0) _ fullWindow ∙ table-long r
+
 loop-again : tie.Need-loop-again Inv-loop μ-loop
 loop-again c =
-    let n = c .before in
-    let r = line (n .before .before) in
+    let w = c .before in
+    let n = taken (w .before) in
+    let r = read (w .before) in
     let l = turn r in
     let a = start l .args in (
       omega (arith, ap reach (n .next .given .1), r .scan .ensures .1 .0),
       omega (arith, more r .if1 .left),
-      table-long r,
+      full-long w,
       args-long r,
       l .loop .inv .4
           ∙ in-form (a .form .now) (a .s .now) (a .most) (l .loop .table) (l .loop .args) (l .loop .at) (l .loop .k)
-          (more r .before .loop-test .taken) (more r .if1 .left) _ _ (r .scan .result) (r .scan .ensures .0) (n .next .given .0 .0) (n .next .given .1),
+          (more r .before .loop-test .taken) (more r .if1 .left) _ _ (r .scan .result) (r .scan .ensures .0)
+          (start l .pre .0 .1) _ (w .full-window .ensures) (n .next .given .0 .0) (n .next .given .1),
     )
 
 returns-3 : tie.Need-returns-3 Inv-loop μ-loop
@@ -113,7 +134,9 @@ lines-spec =
     (λ c. args-long (line (c .before .before)))
     returns-2
     (λ c. record { fits = omega arith })
-    (λ c. omega (arith, more (line (c .before .before .before)) .if1 .left))
+    full-window-requires
+    (λ c. record { fits = omega arith })
+    (λ c. omega (arith, more (read (c .before .before)) .if1 .left))
     loop-again
     (λ c. c .before .loop .inv .2)
     (λ c. c .before .loop .inv .3)

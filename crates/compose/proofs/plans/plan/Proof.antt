@@ -10,7 +10,7 @@ use Rattle.compose.proofs.plans.plan.Tie as tie
 returns : tie.Need-returns
 unfolding planOf
 returns c =
-    let placed = c .before in
+    let placed = c .before .before in
     let told = placed .before .before .before in
     let counted = told .before .before in
     let s = counted .before .before in
