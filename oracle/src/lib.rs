@@ -14,6 +14,7 @@ pub mod cases;
 pub mod compare;
 pub mod lines;
 pub mod model;
+pub mod name_texts;
 pub mod ours;
 pub mod random;
 pub mod random_cards;

@@ -1,3 +1,4 @@
 pub mod Signed
 pub mod Tables
 pub mod Variants
+pub mod Keys

@@ -1,4 +1,5 @@
--- What is known of a layer whose row has no fault (document 01, checks 3 to 8; nothing is asked of its window), and of a picture that it may lie on: facts that the crates above ask for.
+-- What is known of a layer whose row has no fault (document 01, checks 3 to 8; nothing is asked of its window), and of a picture that it may lie on: facts
+-- that the crates above ask for.
 -- Sides and offsets are bounded by the slack of the crate places, not by the job's own limits. Definitions only.
 use mathlib.Core.Path.{_≡_}
 use Prim.Native.Nat.{ℕ, _+_, _*_, _≤_}

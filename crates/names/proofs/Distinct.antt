@@ -1,5 +1,5 @@
--- No two of the 83 names read the same, and each is read as its operator: two tests computed over the list, and what they say of
--- its entries. Assumes nothing.
+-- No two of the 83 names read the same, so that each stands once in the list; and each is read as its operator: two tests computed over the names, and what
+-- they say of the entries. Assumes nothing.
 use mathlib.Core.Path.{_≡_, refl, sym, ap, _∙_}
 use mathlib.Core.Bool.{Bool, true, false, not, _&&_, _||_, or-true}
 use mathlib.Core.List.{List, [], _∷_, map}
@@ -13,9 +13,10 @@ use Rattle.laws.proofs.Tables.{at-each}
 use Rattle.operators.specs.Operators.{numberOf}
 use Rattle.operators.specs.declared.CompositeOp.the-variants.{Over}
 use Rattle.names.specs.Names.{Entry, name, entries, keyOf, same, isKept, lower, fromName}
-use Rattle.names.specs.Packed.{words, numbers}
+use Rattle.names.specs.Packed.{words, numbers, letters, lengths, cut}
 use Rattle.names.specs.declared.Named.{Named}
 use Rattle.names.specs.declared.Named.the-variants.{Operator, Unknown}
+use Rattle.names.proofs.EndToEnd.{names-packed}
 
 -- a list of bytes is one of a list
 abbrev among : List ℕ → List (List ℕ) → Bool
@@ -54,6 +55,17 @@ keys = map keyOf (words entries)
 pub names-distinct : (i j : ℕ) → i < length keys → j < length keys → getD keys i [] ≡ getD keys j [] → i ≡ j
 unfolding keys entries isKept lower
 names-distinct i j h g e = distinct-at keys tt i j h g e
+
+keys-count : length keys ≡ 83
+unfolding keys entries
+keys-count = refl
+
+-- document 02, A.4: each name stands once in the list
+pub each-once : (i j : ℕ) → i < 83 → j < 83 → getD (cut lengths letters) i [] ≡ getD (cut lengths letters) j [] → i ≡ j
+unfolding keys
+each-once i j h g e =
+    let at : (k : ℕ) → getD keys k [] ≡ keyOf (getD (words entries) k []) = λ k. List·getD-map keyOf (words entries) k [] in
+    names-distinct i j (omega (arith, keys-count)) (omega (arith, keys-count)) (at i ∙ ap keyOf (rw (names-packed .0) at e) ∙ sym (at j))
 
 -- an answer is the operator with a number
 abbrev isOperator : Named → ℕ → Bool

@@ -1,21 +1,17 @@
 -- What a place in the list of names says. Assumes nothing.
 use mathlib.Core.Path.{_≡_, refl, ap}
 use mathlib.Core.Bool.{Bool, true, false, cond}
-use mathlib.Core.List.{List, [], _∷_, map}
-use Prim.Native.Nat.{ℕ, suc, _+_, _<_}
+use mathlib.Core.List.{List, [], _∷_}
+use Prim.Native.Nat.{ℕ, suc, _+_}
 use native.Mathlib.Nat.{add-zero, add-suc, suc-add, zero-add}
-use native.Mathlib.Omega.{arith}
-use lib.ListN.{length, getD}
+use lib.ListN.{getD}
 use Rattle.operators.specs.Operators.{numberOf}
 use Rattle.names.specs.Names.{Entry, entries, same, lookup}
-use Rattle.names.specs.Packed.{words, numbers, placeFrom}
+use Rattle.names.specs.Packed.{words, numbersOf, numbers, placeFrom}
 use Rattle.names.specs.declared.Named.{Named}
 use Rattle.names.specs.declared.Named.the-variants.{Operator, Unknown}
 use Rattle.names.specs.declared.Place.{Place}
 use Rattle.names.specs.declared.Place.the-variants.{At, Nowhere}
-
-abbrev numbersOf : List Entry → List ℕ
-numbersOf es = map (λ (e : Entry). numberOf (e .op)) es
 
 -- what is known where the search answered a place
 abbrev pub atPlace : Place → Named
@@ -37,15 +33,3 @@ by-place x (e ∷ es) i h =
 pub place-known : (x : List ℕ) → atPlace (placeFrom 0 x (words entries)) ≡ lookup x entries
 unfolding numbers
 place-known x = by-place x entries 0 (λ j. rw zero-add)
-
--- a place that the search answered lies in the list
-chosen-below : (b : Bool) (i k n : ℕ) (p : Place) → i < n → (p ≡ At k → k < n) → cond b (At i) p ≡ At k → k < n
-chosen-below true i k n p h g e = let q : i ≡ k = cc in omega arith
-chosen-below false i k n p h g e = g e
-
-pub place-below : (x : List ℕ) (ws : List (List ℕ)) (i k : ℕ) → placeFrom i x ws ≡ At k → k < i + length ws
-place-below x [] i k e = let z : _≡_ {A = ℕ} 0 1 = cc in absurd (omega arith)
-place-below x (w ∷ ws) i k e =
-    chosen-below (same x w) i k (i + suc (length ws)) (placeFrom (suc i) x ws) (omega arith)
-    (λ q. omega (arith, place-below x ws (suc i) k q))
-    e

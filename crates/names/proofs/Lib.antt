@@ -1,3 +1,5 @@
+pub mod EndToEnd
+pub mod Eights
 pub mod Reading
 pub mod Packing
 pub mod Known

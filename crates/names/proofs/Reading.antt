@@ -1,42 +1,72 @@
--- One step of reading a text s against a word w: at place i of the text and place j of the word, what is left of the two
--- compares as what is left after the step. Assumes nothing.
-use mathlib.Core.Path.{_≡_, refl, _∙_}
+-- One step of reading a text s against the bytes of a list from a place on: at place i of the text and place j of the list, what is left of the text compares
+-- as what is left after the step; and how many bytes count is counted on. Assumes nothing.
+use mathlib.Core.Path.{_≡_, sym, ap}
 use mathlib.Core.Bool.{Bool, true, false}
-use mathlib.Core.List.{List, [], _∷_}
-use Prim.Native.Nat.{ℕ, zero, suc, _+_, _<_, _≤_}
-use native.Mathlib.Nat.{le-of-suc-le-suc}
+use mathlib.Core.List.{List}
+use Prim.Native.Nat.{ℕ, suc, _+_, _<_, _≤_}
 use native.Mathlib.Numerals.{add-one}
 use native.Mathlib.Omega.{arith}
-use lib.Dec.{eqb, eqb·zero-suc, eqb·suc-suc}
-use lib.ListN.{length, getD, drop, drop-of-length-le}
-use lib.Seq.{drop-cons}
+use lib.ListN.{length, getD, take, drop, drop-of-length-le}
+use lib.Seq.{drop-cons, take-all, length-take-le}
 use borrow.Author.Tests.{eq-eqb, ne-eqb}
 use Rattle.names.specs.Names.{isKept, lower, keyOf, same}
+use Rattle.names.specs.Packed.{mostLetters}
+
+-- how many bytes are left that count
+abbrev pub counted : List ℕ → ℕ → ℕ
+counted s i = length (keyOf (drop i s))
 
 -- what is left to compare
 abbrev pub left : List ℕ → List ℕ → ℕ → ℕ → Bool
-left s w i j = same (keyOf (drop i s)) (drop j w)
+left s bs i j = same (keyOf (drop i s)) (take (counted s i) (drop j bs))
 
-module _ (s w : List ℕ) (i j : ℕ) (in-text : i < length s) where
-  pub dropped : isKept (getD s i 0) ≡ false → left s w i j ≡ left s w (i + 1) j
-  dropped e = rw (add-one, drop-cons s i 0 in-text, e)
+module _ (s : List ℕ) (i : ℕ) (in-text : i < length s) where
+  none-counted : isKept (getD s i 0) ≡ false → counted s i ≡ counted s (i + 1)
+  none-counted e = rw (add-one, drop-cons s i 0 in-text, e)
 
-  module _ (k : isKept (getD s i 0) ≡ true) where
-    pub word-ended : length w ≤ j → left s w i j ≡ false
-    word-ended h = rw (drop-of-length-le w h, drop-cons s i 0 in-text, k)
+  one-counted : isKept (getD s i 0) ≡ true → counted s i ≡ suc (counted s (i + 1))
+  one-counted e = rw (add-one, drop-cons s i 0 in-text, e)
 
-    pub differs : j < length w → (lower (getD s i 0) ≡ getD w j 0 → ⊥) → left s w i j ≡ false
-    differs h d = rw (drop-cons w j 0 h, drop-cons s i 0 in-text, k, ne-eqb (lower (getD s i 0)) (getD w j 0) d)
+  -- n bytes have counted before
+  module _ (n : ℕ) (sum : n + counted s i ≡ counted s 0) where
+    pub sum-kept : isKept (getD s i 0) ≡ true → n + 1 + counted s (i + 1) ≡ counted s 0
+    sum-kept e = omega (arith, one-counted e)
 
-    pub agrees : j < length w → lower (getD s i 0) ≡ getD w j 0 → left s w i j ≡ left s w (i + 1) (j + 1)
-    agrees h e = rw (add-one, add-one, drop-cons w j 0 h, drop-cons s i 0 in-text, k, eq-eqb (lower (getD s i 0)) (getD w j 0) e)
+    pub too-long : isKept (getD s i 0) ≡ true → n ≡ mostLetters → mostLetters + 1 ≡ length (take (mostLetters + 1) (keyOf s))
+    too-long e m = sym (length-take-le (mostLetters + 1) (keyOf s) (omega (arith, one-counted e)))
 
--- the text has ended: the word must have ended too
-pub text-ended : (s w : List ℕ) (i j : ℕ) → length s ≤ i → j ≤ length w → eqb j (length w) ≡ left s w i j
-text-ended s w i j h g = rw (drop-of-length-le s h) (rest w j g)
-  where
-    rest : (w : List ℕ) (j : ℕ) → j ≤ length w → eqb j (length w) ≡ same [] (drop j w)
-    rest [] zero g = refl
-    rest [] (suc j) g = absurd (omega arith)
-    rest (b ∷ w) zero g = eqb·zero-suc (length w)
-    rest (b ∷ w) (suc j) g = eqb·suc-suc j (length w) ∙ rest w j (le-of-suc-le-suc g)
+    pub sum-dropped : isKept (getD s i 0) ≡ false → n + counted s (i + 1) ≡ counted s 0
+    sum-dropped e = omega (arith, none-counted e)
+
+  -- the bytes that count lie within m places from j on
+  module _ (j m : ℕ) (h : j + counted s i ≤ m) where
+    pub inside : isKept (getD s i 0) ≡ true → j < m
+    inside e = omega (arith, one-counted e)
+
+    pub within-kept : isKept (getD s i 0) ≡ true → j + 1 + counted s (i + 1) ≤ m
+    within-kept e = omega (arith, one-counted e)
+
+    pub within-dropped : isKept (getD s i 0) ≡ false → j + counted s (i + 1) ≤ m
+    within-dropped e = omega (arith, none-counted e)
+
+  module _ (bs : List ℕ) (j : ℕ) where
+    pub dropped : isKept (getD s i 0) ≡ false → left s bs i j ≡ left s bs (i + 1) j
+    dropped e = rw (add-one, drop-cons s i 0 in-text, e)
+
+    module _ (k : isKept (getD s i 0) ≡ true) (h : j < length bs) where
+      pub differs : (lower (getD s i 0) ≡ getD bs j 0 → ⊥) → left s bs i j ≡ false
+      differs d = rw (drop-cons bs j 0 h, drop-cons s i 0 in-text, k, ne-eqb (lower (getD s i 0)) (getD bs j 0) d)
+
+      pub agrees : lower (getD s i 0) ≡ getD bs j 0 → left s bs i j ≡ left s bs (i + 1) (j + 1)
+      agrees e = rw (add-one, add-one, drop-cons bs j 0 h, drop-cons s i 0 in-text, k, eq-eqb (lower (getD s i 0)) (getD bs j 0) e)
+
+-- the text has ended
+module _ (s : List ℕ) (i : ℕ) (h : length s ≤ i) where
+  pub all-counted : (n : ℕ) → n ≤ mostLetters → n + counted s i ≡ counted s 0 → n ≡ length (take (mostLetters + 1) (keyOf s))
+  all-counted n g e =
+      let none : counted s i ≡ 0 = rw (drop-of-length-le s h) in
+      let all : take (mostLetters + 1) (keyOf s) ≡ keyOf s = take-all (mostLetters + 1) (keyOf s) (omega arith) in
+      omega (arith, ap length all)
+
+  pub all-read : (bs : List ℕ) (j : ℕ) → left s bs i j ≡ true
+  all-read bs j = rw (drop-of-length-le s h)

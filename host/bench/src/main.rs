@@ -9,10 +9,12 @@
 //!
 //!     bench [SIDE..]        sides of the square pictures: 64 1024 2048 without any
 //!     bench windows         some operators under a full, a small and an empty window, at 1024²
+//!     bench names           the library's `from_name` against the Rust's
 
 mod allocator;
 mod clock;
 mod inputs;
+mod names;
 mod others;
 mod ratios;
 mod tables;
@@ -89,7 +91,10 @@ fn main() {
     let words: Vec<String> = std::env::args().skip(1).collect();
     let number = |text: &String| {
         text.parse().ok().filter(|side| (1..=tray::SIDE as usize).contains(side)).unwrap_or_else(|| {
-            eprintln!("bench [SIDE..] or bench windows: a side is a number from 1 to {}, not {text}", tray::SIDE);
+            eprintln!(
+                "bench [SIDE..], bench windows or bench names: a side is a number from 1 to {}, not {text}",
+                tray::SIDE
+            );
             std::process::exit(2)
         })
     };
@@ -99,6 +104,10 @@ fn main() {
         [kind] if kind == "windows" => {
             heading();
             windows::table(1024);
+        }
+        [kind] if kind == "names" => {
+            heading();
+            names::table();
         }
         given => compared(&given.iter().map(number).collect::<Vec<_>>()),
     }

@@ -116,7 +116,7 @@ impl Side for Composition {
         assert!(!self.images[1].is_null(), "an image is not made");
     }
 
-    fn compose(&mut self) {
+    fn run(&mut self) {
         let done = unsafe { (self.calls.compose)(self.operator, self.images[0], self.images[1], self.side) };
         assert!(done != 0, "a composition failed");
     }

@@ -33,7 +33,7 @@ pub struct Ours<'a> {
 }
 
 impl Side for Ours<'_> {
-    fn compose(&mut self) {
+    fn run(&mut self) {
         let [work0, work1] = &mut self.work.0;
         let inputs = self.pair.inputs(&self.stack);
         let done = tray::job(black_box(&inputs), u64::MAX, Memory { work0, work1, mark: &mut [self.from] });
@@ -55,7 +55,7 @@ impl Rust<'_> {
 }
 
 impl Side for Rust<'_> {
-    fn compose(&mut self) {
+    fn run(&mut self) {
         drop(black_box(self.result()));
     }
 }
@@ -70,7 +70,7 @@ pub type Ratios = [f64; 1 + others::COUNT];
 pub fn measured(pair: &Pair, images: &[FloatImage; 2], work: &mut Work, operator: usize, with_others: bool) -> Ratios {
     let mut ours = Ours { pair, stack: pair.stack(operator), work, from: 0 };
     let mut rust = Rust { composite: composite(operator), images };
-    ours.compose();
+    ours.run();
     let same = |(word, value): (&u32, &f32)| *word == value.to_bits() || *word == NAN && value.is_nan();
     let equal = ours.work.picture().iter().zip(rust.result().samples()).all(same);
     assert!(equal, "{}: another result", rust.composite.op.name());

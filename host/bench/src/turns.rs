@@ -7,8 +7,8 @@ pub trait Side {
     /// What comes before a turn and is not timed.
     fn prepare(&mut self) {}
 
-    /// One composition.
-    fn compose(&mut self);
+    /// What is timed: one composition, or some names.
+    fn run(&mut self);
 }
 
 /// How often a picture of so many pixels is composed: turns, and compositions a turn.
@@ -20,17 +20,22 @@ fn effort(pixels: usize) -> (usize, usize) {
     }
 }
 
-/// Seconds a composition.
+/// Seconds a run.
 fn time(side: &mut dyn Side, batch: usize) -> f64 {
     side.prepare();
     let start = clock::now();
-    (0..batch).for_each(|_| side.compose());
+    (0..batch).for_each(|_| side.run());
     (clock::now() - start) / batch as f64
 }
 
-/// The times of each turn, in which the sides follow each other; NaN for a side that is not there.
-pub fn turns<const N: usize>(pixels: usize, mut sides: [Option<&mut dyn Side>; N]) -> Vec<[f64; N]> {
+/// The times of a composition of so many pixels.
+pub fn turns<const N: usize>(pixels: usize, sides: [Option<&mut dyn Side>; N]) -> Vec<[f64; N]> {
     let (count, batch) = effort(pixels);
+    so_many(count, batch, sides)
+}
+
+/// The times of each turn, in which the sides follow each other; NaN for a side that is not there.
+pub fn so_many<const N: usize>(count: usize, batch: usize, mut sides: [Option<&mut dyn Side>; N]) -> Vec<[f64; N]> {
     let mut turn = || sides.each_mut().map(|side| side.as_mut().map_or(f64::NAN, |side| time(*side, batch)));
     (0..count).map(|_| turn()).collect()
 }

@@ -46,7 +46,7 @@ fn line(pair: &Pair, works: &mut [Work; 3], operator: Operator) {
         let window = windowed.next().expect("a window for each");
         Ours { pair, stack: stack(window), work, from: 0 }
     });
-    jobs.iter_mut().for_each(Side::compose);
+    jobs.iter_mut().for_each(Side::run);
     let full = jobs[0].work.picture();
     let right = jobs.iter().zip(windows).all(|(job, window)| cuts(pair, window, full, job.work.picture()));
     assert!(right, "{operator}: another result");

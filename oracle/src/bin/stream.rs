@@ -7,10 +7,13 @@
 //! stream grays COUNT SEED: instead of these COUNT random pixels, narrowed to one channel as words and as bytes.
 //!
 //! stream cards COUNT SEED: instead COUNT random texts, read as cards, against the model of document 02.
+//!
+//! stream names: instead all the texts of `name_texts`, asked as names.
 
 use oracle::compare::{agrees, answered, expected};
 use oracle::lines::{Case, FILL, FILL_INTEGER, Outcome, Request, alone};
 use oracle::model::Reference;
+use oracle::name_texts;
 use oracle::ours;
 use oracle::random::Random;
 use oracle::reference::is_map;
@@ -31,6 +34,8 @@ struct Counts {
     stores: u64,
     narrowings: u64,
     names: u64,
+    /// Of `stream names`: each kind of texts, how many they are, and how many of them are known.
+    kinds: Vec<(&'static str, u64, u64)>,
     grays: u64,
     cards: u64,
     accepted_cards: u64,
@@ -166,6 +171,19 @@ impl Stream {
         }
     }
 
+    /// Every text that is asked as a name.
+    fn names(&mut self) {
+        for (kind, texts) in name_texts::kinds() {
+            let (mut asked, mut known) = (0, 0);
+            for text in texts {
+                let outcome = self.compare(Request::Name(text));
+                asked += 1;
+                known += matches!(outcome, Outcome::Name { number: 0, .. }) as u64;
+            }
+            self.counts.kinds.push((kind, asked, known));
+        }
+    }
+
     fn report(&self, case: Case) -> ! {
         std::panic::set_hook(Box::new(|_| {}));
         let least = expected(shrink(case.request, |request| !agrees(&*self.side, &expected(request.clone()))));
@@ -182,9 +200,12 @@ impl Stream {
     }
 }
 
-/// A case as a line; a card's text, answer and lists also for a person's eyes.
+/// A case as a line; a name, and a card's text, answer and lists also for a person's eyes.
 fn show(case: &Case) {
     println!("{}", alone(case));
+    if let Request::Name(name) = &case.request {
+        println!("\"{}\"", name.escape_ascii());
+    }
     if let (Request::Card { text, .. }, Outcome::Card { answer, table, args }) = (&case.request, &case.expected) {
         println!("\"{}\"\n{answer:?}", text.escape_ascii());
         println!("table {}, arguments {}", told(table, FILL_INTEGER), told(args, FILL));
@@ -196,12 +217,21 @@ fn told<T: PartialEq + Debug>(list: &[T], fill: T) -> String {
     if list.iter().all(|n| *n == fill) { "as before".to_string() } else { format!("{list:?}") }
 }
 
-fn main() {
+/// What is asked, if it is not requests of every kind; and a count and a seed, which `names` has not.
+fn words() -> Option<(Option<&'static str>, [u64; 2])> {
     let words: Vec<String> = std::env::args().skip(1).collect();
-    let kind = words.first().map(String::as_str).filter(|word| ["grays", "cards"].contains(word));
-    let numbers: Vec<u64> = words[kind.is_some() as usize..].iter().filter_map(|word| word.parse().ok()).collect();
-    let [count, seed] = numbers[..] else {
-        eprintln!("stream [grays | cards] COUNT SEED");
+    let kind = ["grays", "cards", "names"].into_iter().find(|kind| words.first().is_some_and(|word| word == kind));
+    let numbers = words[kind.is_some() as usize..].iter().map(|word| word.parse().ok());
+    match (kind, &numbers.collect::<Option<Vec<u64>>>()?[..]) {
+        (Some("names"), []) => Some((kind, [0; 2])),
+        (None | Some("grays" | "cards"), &[count, seed]) => Some((kind, [count, seed])),
+        _ => None,
+    }
+}
+
+fn main() {
+    let Some((kind, [count, seed])) = words() else {
+        eprintln!("stream [grays | cards] COUNT SEED, or stream names");
         std::process::exit(2)
     };
     let (side, name): (Box<dyn Side>, _) = match ours::linked() {
@@ -212,21 +242,30 @@ fn main() {
     let mut stream = Stream { side, counts: Counts::default() };
     match kind {
         Some("grays") => stream.grays(count, &mut random),
-        Some(_) => stream.cards(count, &mut random),
+        Some("cards") => stream.cards(count, &mut random),
+        Some(_) => stream.names(),
         None => stream.requests(count, &mut random),
     }
-    let c = stream.counts;
     let judge = match kind {
         Some("cards") => "document 02's card",
         _ if cfg!(feature = "unchanged") => "the Rust with deep.rs as it is",
         _ => "the Rust",
     };
-    println!("{judge} against {name}, seed {seed}: no mismatch");
+    let seed = if kind == Some("names") { String::new() } else { format!(", seed {seed}") };
+    println!("{judge} against {name}{seed}: no mismatch");
+    let c = stream.counts;
     match kind {
         Some("grays") => println!("pixels narrowed to one channel {}, each as a word and as a byte", c.grays),
-        Some(_) => println!("texts {} ({} accepted, with {} layers)", c.cards, c.accepted_cards, c.layers),
+        Some("cards") => println!("texts {} ({} accepted, with {} layers)", c.cards, c.accepted_cards, c.layers),
+        Some(_) => report_names(&c),
         None => report_requests(&c),
     }
+}
+
+fn report_names(c: &Counts) {
+    let known: u64 = c.kinds.iter().map(|(_, _, known)| known).sum();
+    let kinds: Vec<String> = c.kinds.iter().map(|(kind, asked, known)| format!("{kind} {asked} ({known})")).collect();
+    println!("texts {} ({known} known): {}", c.names, kinds.join(", "));
 }
 
 fn report_requests(c: &Counts) {

@@ -104,6 +104,14 @@ const NEAR: &[&[u8]] = &[
     b"@dd",
     b"`dd",
     b"minus{",
+    b"rin",
+    b"nout",
+    b"dsubtract",
+    b"subtract\0",
+    b"subtract\0\0\0\0\0\0\0\0",
+    b"softlighs",
+    b"modulussubtracs",
+    b"lightenintensite",
     b"aaaaaaaaaaaaaaaaaaaaaaaaaaaaaaaaaaaaaaaaaaaaaaaaaaaaaaaaaaaaaaaaaaaaaaaaaaaaaaaaaaaaaaaaaaaaaaaaaa",
     b"o----------------------------------------------------------------v_____________________er",
 ];
@@ -123,6 +131,15 @@ pub fn put(book: &mut Book) {
         book.put(Request::Name(spelt));
         book.put(Request::Name(bytes[..bytes.len() - 1].to_vec()));
         book.put(Request::Name([bytes, b"s"].concat()));
+    }
+    book.note("names: each one with the next, and with its first letter");
+    for pair in known.windows(2) {
+        let (name, first) = (pair[0], &pair[1][..1]);
+        book.put(Request::Name(pair.concat().into()));
+        // A name with an 's' stands above.
+        if first != "s" {
+            book.put(Request::Name([name, first].concat().into()));
+        }
     }
     book.note("names: near misses, and bytes that are no name");
     for name in NEAR {

@@ -108,6 +108,12 @@ fn windows() -> impl Iterator<Item = String> {
     asked.into_iter().flat_map(|(request, wrongs)| wrongs.iter().map(move |wrong| misread(request.clone(), *wrong)))
 }
 
+/// Texts that go on behind a name, answered with its operator.
+fn names() -> impl Iterator<Item = String> {
+    let asked: [(&[u8], Wrong); 2] = [(b"inout", Wrong::NameRunsOn), (b"subtract\0", Wrong::LettersPadded)];
+    asked.into_iter().map(|(text, wrong)| misread(Request::Name(text.to_vec()), wrong))
+}
+
 /// The gray of a pixel as a word and as a byte, answered as deep.rs has it and document 02 does not.
 fn grays() -> impl Iterator<Item = String> {
     let input = words(&[0.25, 0.5, 0.75, 1.0]);
@@ -129,7 +135,7 @@ pub fn put(book: &mut Book) {
         let (asked, answered) = parts(&case);
         spoiled(&asked, &answered).iter().for_each(|line| put(line, false));
     }
-    windows().for_each(|line| put(&line, false));
+    names().chain(windows()).for_each(|line| put(&line, false));
     // By deep.rs as it is, these are right.
     grays().for_each(|line| put(&line, cfg!(feature = "unchanged")));
 }

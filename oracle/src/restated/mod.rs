@@ -1,7 +1,7 @@
 //! Document 01 worked out a second time, with no line of the Rust: float steps, operators, placing, names,
-//! narrowing, faults and the job, one store after the other; the gray, the card and the window as document 02 has them. Each
-//! place where a reader may go wrong has a switch (`wrong.rs`); with none set this agrees with the Rust and its model on
-//! every request.
+//! narrowing, faults and the job, one store after the other; the gray, the card, the window and the list of the names as
+//! document 02 has them. Each place where a reader may go wrong has a switch (`wrong.rs`); with none set this agrees with
+//! the Rust and its model on every request.
 
 // A negated comparison is another one where an operand is NaN, and some misreadings are just that.
 #![allow(clippy::neg_cmp_op_on_partial_ord)]

@@ -35,6 +35,7 @@ macro_rules! misreadings {
             Convention(Op, Convention),
             Neighbour(Op),
             AliasUnknown(usize),
+            NameSeam(usize),
             Strict(Bound),
             Loose(Bound),
             RowOrder(usize),
@@ -291,6 +292,24 @@ misreadings! {
     NameEmptyIsOver "the empty name is Over"
     AliasesByComment "srcover and its kin are Src, as the comment says"
     NameRefusesCurves "blur and interpolate are unknown names";
+
+    "names end to end":
+    NameRunsOn "a text that goes on with the letters behind a name is the name"
+    NameWithNext "a name followed by the next is the name too"
+    NameAnywhere "a text that stands anywhere in the list is the name that it begins in"
+    LastNameOpen "what stands after the last name is not read"
+    LastLetterLeft "the last name is a letter short"
+    LettersPadded "the list goes on with NUL"
+    LettersTurned "each eight letters from the last to the first"
+    LengthsTurned "each eight lengths from the last to the first"
+    LengthsPadded "the five zeros after the lengths are names"
+    LengthsInFourBits "the length of 16 is 0"
+    PlacesInEightBits "a place in the list has eight bits"
+    EightLetters "letters past the eighth are not compared"
+    LengthWithDropped "a text's length counts what is dropped"
+    SixteenBytes "a text longer than every name is unknown"
+    AliasesFromZero "the aliases are the operators from 0 on"
+    AliasesGoOn "the aliases are the operators from 70 on";
 
     "refusals":
     TableLonger "a longer sheet is accepted"
@@ -559,6 +578,9 @@ pub fn all() -> Vec<(Wrong, &'static str, String)> {
     }
     for alias in 0..13 {
         add(Wrong::AliasUnknown(alias), "names", "this alias is unknown");
+    }
+    for seam in 0..82 {
+        add(Wrong::NameSeam(seam), "names end to end", "this name has the first letter of the next");
     }
     for &bound in Bound::ALL {
         add(Wrong::Strict(bound), "refusals", "this bound one too strict");

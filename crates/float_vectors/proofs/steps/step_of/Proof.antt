@@ -9,7 +9,7 @@ use lib.ListN.{getD}
 use borrow.Author.Needs.{needs}
 use Rattle.float_steps.specs.Words.{wordOf}
 use Rattle.float_vectors.specs.Steps.{stepsOf}
-use Rattle.float_vectors.proofs.Keys.{NoneBelow, at-least}
+use Rattle.laws.proofs.Keys.{NoneBelow, at-least}
 use Rattle.float_vectors.proofs.steps.step_of.Statement.{statement}
 use Rattle.float_vectors.proofs.steps.step_of.Tie as tie
 
