@@ -31,11 +31,17 @@ int main(void) {
     /* A host that makes its buffers as large as the card says asks first whether the sides are 0 to TRAY_MAX_SIDE. These are
      * for 4 x 1 pixels, and the job refuses a card that has others. The job takes the rows of the layers alone. */
     static float work[2][4 * 4];
-    uint64_t mark = 0, layer, stores, finished;
+    static uint64_t mark[2];
+    uint64_t layer, stores, finished;
+    /* A card has no job number. The mark begins with position 0, then the number, as in examples/job.c. */
+    const uint64_t job_number = 2;
+    volatile uint64_t *begin = mark;
+    begin[0] = 0;
+    begin[1] = job_number;
     fault = tray_job(
         width, height, channels, (const uint32_t *)blue, 4 * 3,
         layers, table, TRAY_COLUMNS * (size_t)layers, args, TRAY_MAX_ARGUMENTS * (size_t)layers, (const uint32_t *)red, 3 * 4,
-        UINT64_MAX, (uint32_t *)work[0], 4 * 4, (uint32_t *)work[1], 4 * 4, &mark, 1,
+        job_number, UINT64_MAX, (uint32_t *)work[0], 4 * 4, (uint32_t *)work[1], 4 * 4, mark, 2,
         &layer, &stores, &finished);
     if (fault != TRAY_DONE) {
         fprintf(stderr, "refused: %" PRIu64 " in layer %" PRIu64 "\n", fault, layer);

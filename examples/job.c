@@ -24,18 +24,26 @@ int main(void) {
     /* What a job writes: two work buffers of four samples a pixel, and the mark. Where these lie in shared memory or in a
      * mapped file, another process may go on, after this one was stopped between two calls or killed in one. */
     static float work[2][4 * 4];
-    uint64_t mark = 0, layer, stores, finished;
+    static uint64_t mark[2];
+    uint64_t layer, stores, finished;
+
+    /* The job's number, which no other job has had: 64 random bits, or as here the next one of a host that counts its jobs. The
+     * mark is given it once, before the first call: position 0 first, then the number, which volatile keeps in this order. */
+    const uint64_t job_number = 1;
+    volatile uint64_t *begin = mark;
+    begin[0] = 0;
+    begin[1] = job_number;
     do {
         uint64_t fault = tray_job(
             4, 1, 3, (const uint32_t *)blue, 4 * 3,
             1, table, TRAY_COLUMNS, (const uint32_t *)args, TRAY_MAX_ARGUMENTS, (const uint32_t *)red, 3 * 4,
-            15, (uint32_t *)work[0], 4 * 4, (uint32_t *)work[1], 4 * 4, &mark, 1,
+            job_number, 15, (uint32_t *)work[0], 4 * 4, (uint32_t *)work[1], 4 * 4, mark, 2,
             &layer, &stores, &finished);
         if (fault != TRAY_DONE) {
             fprintf(stderr, "refused: %" PRIu64 " in layer %" PRIu64 "\n", fault, layer);
             return 1;
         }
-        printf("%" PRIu64 " stores, mark %" PRIu64 "\n", stores, mark);
+        printf("%" PRIu64 " stores, mark %" PRIu64 "\n", stores, mark[0]);
     } while (!finished);
 
     /* A job of one layer ends in work buffer 1. */

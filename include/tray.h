@@ -36,7 +36,7 @@
  * and sets it by fesetenv(FE_DFL_ENV), or by _mm_setcsr(0x1F80) on x86-64. The Rust crate host/tray
  * looks at the rounding and the subnormal numbers before each call that computes.
  *
- * Answers. 0: done. Otherwise the number of the first fault, in the order 1, 2, then layer by layer 3 to 8 and 13, then 9, 10:
+ * Answers. 0: done. Otherwise the number of the first fault, in the order 1, 2, then layer by layer 3 to 8 and 13, then 9, 10, 14:
  *
  *    1  STACK      layers not 1 to 16; table not 14 or arguments not 4 a layer
  *    2  TRAY       a side of the destination not 0 to 2048; channels not 1, 3, 4; samples not width x height x channels
@@ -47,10 +47,11 @@
  *    7  SOURCE     start negative; side or channels as in 2; start + width x height x channels over the samples' count
  *    8  ARGUMENTS  count not 0 to 4
  *    9  WORK       a work buffer, or a single composition's output, is not 4 x width x height words
- *   10  MARK       the mark is not one number, or more than (layers + 1) x width x height
+ *   10  MARK       the mark is not two numbers, or its first, the position, is more than (layers + 1) x width x height
  *   11  NARROW     wanted channels not 1, 3, 4; input no multiple of 4 words; output not input / 4 x wanted
  *   12  CARD       a line of a card out of form or a layer too many; table or arguments not those of 16 layers
  *   13  WINDOW     left, top, width or height of a window not 0 to 2048, each by itself
+ *   14  JOB NUMBER the mark's second number is not the call's job_number
  */
 #ifndef TRAY_H
 #define TRAY_H
@@ -91,7 +92,8 @@ enum tray_fault {
     TRAY_MARK = 10,
     TRAY_NARROW = 11,
     TRAY_CARD = 12,
-    TRAY_WINDOW = 13
+    TRAY_WINDOW = 13,
+    TRAY_JOB_NUMBER = 14
 };
 
 /* The layer table: fourteen numbers a layer, the lowest layer first.
@@ -256,35 +258,55 @@ uint64_t tray_narrow_bytes(int64_t wanted, const uint32_t *input, size_t input_l
 
 /* A call of a job: goes on from the mark with up to `allowance` stores (UINT64_MAX: to the end).
  *
+ * The mark is two numbers: mark[0] is the position, which counts the pixels written over all phases, and mark[1] the number
+ * of the job that the mark belongs to. A call stores mark[0] and never mark[1], which is the host's to write. Where mark[1]
+ * is not the call's job_number, the call is refused as 14 and writes nothing, at a fresh position and at a finished one, on
+ * a destination without pixels, with an allowance of 0. 0 is a job number like any other.
+ *
  * With N = width x height, phase 0 stores the destination, widened to four channels, in work0; phase k, 1 to layers,
  * composites layer k - 1 on work (k - 1) mod 2 into work k mod 2. A pixel is five stores: red, green, blue, alpha, then
- * the mark, raised by one. So a call gains floor(allowance / 5) pixels, or all left if fewer.
+ * the position, raised by one. So a call gains floor(allowance / 5) pixels, or all left if fewer.
  *
- * Answers: a number, 0 to 10 or 13; *layer, the layer at fault counted from 0, and 0 where none is concerned; *stores, the
- * stores made; *finished, 1 when the mark is (layers + 1) x N and the picture stands in work (layers mod 2), else 0. A
- * refused call answers 0 stores, not finished, and leaves work0, work1 and mark as they were.
+ * Answers: a number, 0 to 10, 13 or 14; *layer, the layer at fault counted from 0, and 0 where none is concerned; *stores,
+ * the stores made; *finished, 1 when the position is (layers + 1) x N and the picture stands in work (layers mod 2), else 0.
+ * A refused call answers 0 stores, not finished, and leaves work0, work1 and mark as they were.
  *
- * Taking a job up. A job begins with *mark = 0 and any content in work0 and work1. A worker may be stopped anywhere in a
- * call, SIGKILL included: what it leaves is what a call allowed fewer stores leaves, and the next call with the same
- * inputs goes on from there. The finished picture has the same bits however often this happens. For this
+ * Beginning a job. Each job has a number of its own: 64 random bits, or a number that was never used before. Before the
+ * job's first call the host writes position 0, and then the number, in this order. Since a compiler may exchange plain
+ * stores, it writes through a volatile pointer, or the number by a release store:
+ *
+ *    volatile uint64_t *begin = mark;
+ *    begin[0] = 0;
+ *    begin[1] = job_number;
+ *
+ * A host that is killed between the two leaves position 0 under the number that stood there before: this job's calls refuse
+ * it as 14, and the job of that number would start anew. In the other order an earlier job's position could stand under this
+ * job's number, and the picture would be a mixture. work0 and work1 begin with any content.
+ *
+ * Taking a job up. A worker may be stopped anywhere in a call, SIGKILL included: what it leaves is what a call allowed fewer
+ * stores leaves, and the next call with the same inputs and the same job number goes on from there. The finished picture has
+ * the same bits however often this happens. For this
  *  - the host sees that a stopped worker is gone (waited for, not only signalled) before the next call starts: a job's
  *    calls never overlap;
- *  - all of a job's calls get the same inputs;
+ *  - all of a job's calls get the same inputs and the same job number. The number tells one job's mark from another's, and
+ *    nothing else: a call does not see whether the inputs and the work buffers are those that the job began with;
  *  - work0, work1 and mark are lent to no other job, and written by nothing else, from the first call to the last;
  *  - where the three live in shared memory or a mapped file, a killed process loses nothing. A machine that loses its
- *    power may have stored the mark and not its pixels: a host that must outlive this stores the picture at the end of
- *    each phase, then the mark, apart, and only then begins the next, and takes the job up at that mark (host/README.md). */
+ *    power may have stored the position and not its pixels: a host that must outlive this stores the picture at the end of
+ *    each phase, then the position, apart, and only then begins the next, and takes the job up there: it writes that
+ *    position into mark[0], and leaves mark[1] as it is (host/README.md). */
 uint64_t tray_job(
     int64_t width, int64_t height, int64_t channels, const uint32_t *dst, size_t dst_length,
     int64_t layers, const int64_t *table, size_t table_length, const uint32_t *args, size_t args_length,
     const uint32_t *samples, size_t samples_length,
-    uint64_t allowance,
+    uint64_t job_number, uint64_t allowance,
     uint32_t *work0, size_t work0_length, uint32_t *work1, size_t work1_length, uint64_t *mark, size_t mark_length,
     uint64_t *layer, uint64_t *stores, uint64_t *finished);
 
-/* Reads a card: a job as text, which people keep and edit. It has the job's numbers and no samples: those of the
- * destination and of the sources a host has besides. One form a line, single spaces, each line ended by byte 10, the last
- * one too, and nothing else; first the destination, then the layers, the lowest first, at most TRAY_MAX_LAYERS:
+/* Reads a card: a job as text, which people keep and edit. It has neither samples nor a job number: those of the
+ * destination and of the sources, and a number for each job, a host has besides. One form a line, single spaces, each line
+ * ended by byte 10, the last one too, and nothing else; first the destination, then the layers, the lowest first, at most
+ * TRAY_MAX_LAYERS:
  *
  *    (tray EDITION WIDTH HEIGHT CHANNELS)
  *    (layer NAME (place GRAVITY RIGHT DOWN) (flags FLAGS) (source FIRST WIDTH HEIGHT CHANNELS) (args WORD ..))

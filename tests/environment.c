@@ -39,29 +39,29 @@ static void compose(uint32_t *out) {
     if (tray_compose(PIXELS, 1, 4, dst, WORDS, table, TRAY_COLUMNS, args, 4, src, WORDS, out, WORDS) != TRAY_DONE) fail("refused", _mm_getcsr());
 }
 
-/* Goes on with a job of this one layer. */
-static void call(uint64_t allowance, uint32_t work[2][WORDS], uint64_t *mark) {
+/* Goes on with a job of this one layer, whose number is 1. */
+static void call(uint64_t allowance, uint32_t work[2][WORDS], uint64_t mark[2]) {
     uint64_t layer, stores, finished;
-    if (tray_job(PIXELS, 1, 4, dst, WORDS, 1, table, TRAY_COLUMNS, args, 4, src, WORDS, allowance, work[0], WORDS, work[1], WORDS, mark, 1, &layer, &stores,
-                 &finished) != TRAY_DONE)
+    if (tray_job(PIXELS, 1, 4, dst, WORDS, 1, table, TRAY_COLUMNS, args, 4, src, WORDS, 1, allowance, work[0], WORDS, work[1], WORDS, mark, 2, &layer,
+                 &stores, &finished) != TRAY_DONE)
         fail("refused", _mm_getcsr());
 }
 
 static void look(unsigned setting) {
     uint32_t other[WORDS], again[WORDS], work[2][WORDS];
-    uint64_t mark = 0;
-    call(5 * 3, work, &mark);
+    uint64_t mark[2] = {0, 1};
+    call(5 * 3, work, mark);
     _mm_setcsr(0x1f80 | setting);
     int seen = !default_environment();
     compose(other);
-    call(UINT64_MAX, work, &mark);
+    call(UINT64_MAX, work, mark);
     fesetenv(FE_DFL_ENV);
     if (!seen) fail("the checks do not see it", setting);
     if (!default_environment()) fail("fesetenv leaves it", setting);
     compose(again);
     if (memcmp(again, right, sizeof right) != 0) fail("other bits afterwards", setting);
     if (memcmp(other, right, 16) == 0 || memcmp(other + 4, right + 4, 16) == 0) fail("the same bits", setting);
-    if (mark != 2 * PIXELS || memcmp(work[1], right, 16) != 0 || memcmp(work[1] + 4, other + 4, 16) != 0) fail("no mixture", setting);
+    if (mark[0] != 2 * PIXELS || memcmp(work[1], right, 16) != 0 || memcmp(work[1] + 4, other + 4, 16) != 0) fail("no mixture", setting);
 }
 
 int main(void) {

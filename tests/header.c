@@ -1,6 +1,7 @@
 /* What include/tray.h says in numbers is true of the library: each operator's number by its name, and each limit, at which
- * a call is accepted and beyond which it is refused under the number that stands beside it; what a window cuts; and the card
- * that it shows is read as it says, and one that is refused writes nothing. */
+ * a call is accepted and beyond which it is refused under the number that stands beside it; what a window cuts; what a call
+ * asks of the mark, and what it writes of it; and the card that it shows is read as it says, and one that is refused writes
+ * nothing. */
 #include "../include/tray.h"
 #include <stdio.h>
 #include <string.h>
@@ -38,14 +39,14 @@ static void fill(int64_t *row, int64_t source) {
 
 /* The first call of a job with one row of pixels and sources of one row. */
 static uint64_t job(int64_t side, int64_t source, int64_t layers, int64_t column, int64_t number) {
-    uint64_t mark = 0, layer, stores, finished;
+    uint64_t mark[2] = {0, 5}, layer, stores, finished;
     for (int64_t k = 0; k < layers; k++) {
         fill(table + k * TRAY_COLUMNS, source);
         table[k * TRAY_COLUMNS + column] = number;
     }
     size_t words = 4 * (size_t)side;
     return tray_job(side, 1, 4, picture, words, layers, table, (size_t)layers * TRAY_COLUMNS, args,
-        (size_t)layers * TRAY_MAX_ARGUMENTS, picture, 4 * (size_t)source, 0, work[0], words, work[1], words, &mark, 1, &layer,
+        (size_t)layers * TRAY_MAX_ARGUMENTS, picture, 4 * (size_t)source, 5, 0, work[0], words, work[1], words, mark, 2, &layer,
         &stores, &finished);
 }
 
@@ -102,6 +103,60 @@ static void windows(void) {
     expect("a number less in a row", compose(full, TRAY_COLUMNS - 1), TRAY_STACK);
     expect("a row without a window", compose(full, TRAY_COLUMN_WINDOW_LEFT), TRAY_STACK);
     for (int i = 0; i < 16; i++) expect("what a refused call leaves", composed[i], 0x55555555);
+}
+
+/* A call of a job of one layer on three pixels, with a mark of which `length` numbers are lent; the number behind it is not. */
+static uint64_t mark[3], layer, stores, finished;
+
+static uint64_t go_on(uint64_t position, uint64_t number, size_t length, uint64_t job_number, uint64_t allowance) {
+    fill(table, 1);
+    memset(work, 0x55, sizeof work);
+    mark[0] = position;
+    mark[1] = number;
+    mark[2] = 99;
+    layer = stores = finished = 99;
+    return tray_job(3, 1, 4, picture, 12, 1, table, TRAY_COLUMNS, args, TRAY_MAX_ARGUMENTS, picture, 4, job_number, allowance, work[0],
+        12, work[1], 12, mark, length, &layer, &stores, &finished);
+}
+
+/* Such a call, which is refused and writes nothing but its answers. */
+static void refuses_mark(const char *what, uint64_t position, uint64_t number, size_t length, uint64_t job_number, uint64_t wanted) {
+    for (uint64_t allowance = 0; allowance <= 10; allowance += 5) {
+        expect(what, go_on(position, number, length, job_number, allowance), wanted);
+        expect(what, layer, 0);
+        expect(what, stores, 0);
+        expect(what, finished, 0);
+        expect(what, mark[0], position);
+        expect(what, mark[1], number);
+        expect(what, mark[2], 99);
+        for (int i = 0; i < 12; i++) {
+            expect(what, work[0][i], 0x55555555);
+            expect(what, work[1][i], 0x55555555);
+        }
+    }
+}
+
+static void marks(void) {
+    static const uint64_t numbers[] = {0, 1, 7, UINT64_C(1) << 32, UINT64_MAX};
+    for (int k = 0; k < 5; k++) {
+        uint64_t number = numbers[k];
+        expect("the mark's own number", go_on(2, number, 2, number, 10), TRAY_DONE);
+        expect("its stores", stores, 10);
+        expect("its position", mark[0], 4);
+        expect("its number afterwards", mark[1], number);
+        expect("the number behind it", mark[2], 99);
+        expect("a finished mark", go_on(6, number, 2, number, 0), TRAY_DONE);
+        expect("its answer", finished, 1);
+        for (uint64_t position = 0; position <= 6; position++) {
+            refuses_mark("the number after the mark's", position, number, 2, number + 1, TRAY_JOB_NUMBER);
+            refuses_mark("a number with another high half", position, number, 2, number ^ UINT64_C(1) << 63, TRAY_JOB_NUMBER);
+        }
+        refuses_mark("a mark of one number", 0, number, 1, number, TRAY_MARK);
+        refuses_mark("a mark of three numbers", 0, number, 3, number, TRAY_MARK);
+        refuses_mark("a mark of no numbers", 0, number, 0, number, TRAY_MARK);
+        refuses_mark("a position beyond the end", 7, number, 2, number, TRAY_MARK);
+        refuses_mark("a position beyond the end and another number", 7, number, 2, number + 1, TRAY_MARK);
+    }
 }
 
 #define NUMBERS (TRAY_COLUMNS * TRAY_MAX_LAYERS)
@@ -229,6 +284,7 @@ int main(void) {
     expect("the most layers", job(1, 1, TRAY_MAX_LAYERS, 0, 0), TRAY_DONE);
     expect("a layer more", job(1, 1, TRAY_MAX_LAYERS + 1, 0, 0), TRAY_STACK);
     windows();
+    marks();
     cards();
     return wrong;
 }

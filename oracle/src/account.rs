@@ -1,5 +1,6 @@
 //! Document 01's account of a job: its pictures, its store list, and the state that calls move along it. It
-//! takes the compositions from the compiled Rust and nothing from the model's calls, which it checks.
+//! takes the compositions from the compiled Rust and nothing from the model's calls, which it checks. The mark that it
+//! moves has document 02's two numbers, of which the store list has the position alone.
 
 use crate::request::{Answer, Job, Memory, Picture};
 use crate::{model, reference, window};
@@ -8,7 +9,7 @@ use crate::{model, reference, window};
 #[derive(Clone, Copy, Debug, PartialEq)]
 pub enum Entry {
     Word { work: usize, place: usize, word: u32 },
-    Mark(u64),
+    Position(u64),
 }
 
 /// Picture 0 is the widened destination, picture k is layer k - 1 on picture k - 1, whose pixels stay off the layer's window.
@@ -35,13 +36,13 @@ pub fn entries(job: &Job) -> Vec<Entry> {
         for j in 0..pixels {
             let word = |c: usize| Entry::Word { work: k % 2, place: 4 * j + c, word: picture[4 * j + c] };
             list.extend((0..4).map(word));
-            list.push(Entry::Mark((k * pixels + j + 1) as u64));
+            list.push(Entry::Position((k * pixels + j + 1) as u64));
         }
     }
     list
 }
 
-/// The account's state: it begins with the memory lent, at mark 0.
+/// The account's state: it begins with the memory lent, at position 0 under the job's number.
 pub struct Account {
     entries: Vec<Entry>,
     pub memory: Memory,
@@ -49,10 +50,11 @@ pub struct Account {
 
 impl Account {
     pub fn new(job: &Job, memory: &Memory) -> Self {
+        assert!(matches!(memory.mark[..], [0, _]), "a job begins at position 0 of a mark of two numbers");
         Account { entries: entries(job), memory: memory.clone() }
     }
 
-    /// A call with the job's own inputs.
+    /// A call with the job's own inputs, under the job's number.
     pub fn call(&mut self, allowance: u64) -> Answer {
         let first = 5 * self.memory.mark[0] as usize;
         let rest = &self.entries[first..];
@@ -60,7 +62,7 @@ impl Account {
         for entry in made {
             match *entry {
                 Entry::Word { work, place, word } => self.memory.work[work][place] = word,
-                Entry::Mark(mark) => self.memory.mark[0] = mark,
+                Entry::Position(position) => self.memory.mark[0] = position,
             }
         }
         let finished = self.memory.mark[0] as usize * 5 == self.entries.len();

@@ -1,7 +1,7 @@
 //! The text form of a case, one a line: what is asked, then what must be answered. oracle/README.md
 //! describes it. `Reader` and `Writer` remember the lists that '=' stands for.
 
-use crate::request::{Answer, CardAnswer, Job, Memory, Side};
+use crate::request::{Answer, Call, CardAnswer, Job, Memory, Side};
 use std::fmt::Write;
 
 /// Where the fixed vectors stand: they are what the program that replays them reads.
@@ -34,7 +34,7 @@ pub enum Request {
     Calls {
         job: Job,
         memory: Memory,
-        allowances: Vec<u64>,
+        calls: Vec<Call>,
     },
     /// A text, and the lengths of the table and of the arguments that are lent.
     Card {
@@ -60,7 +60,7 @@ pub struct Case {
     pub expected: Outcome,
 }
 
-/// The mark as a line shows it: the first number of its list, 0 if there is none.
+/// The mark as a line shows it after a call: its position, which is the first number of its list, 0 if there is none.
 fn shown(mark: &[u64]) -> u64 {
     mark.first().copied().unwrap_or(0)
 }
@@ -87,11 +87,11 @@ pub fn ask(side: &dyn Side, request: &Request) -> Outcome {
             let number = side.compose(job, &mut out);
             Outcome::Words { number, out }
         }
-        Request::Calls { job, memory, allowances } => {
+        Request::Calls { job, memory, calls } => {
             let mut memory = memory.clone();
             let mut answers = Vec::new();
-            for allowance in allowances {
-                let answer = side.call(job, *allowance, &mut memory);
+            for call in calls {
+                let answer = side.call(job, *call, &mut memory);
                 answers.push((answer, shown(&memory.mark)));
             }
             Outcome::Calls { answers, memory }
@@ -252,11 +252,11 @@ impl Writer {
                 self.job(job, false);
                 self.number(*length);
             }
-            Request::Calls { job, memory, allowances } => {
+            Request::Calls { job, memory, calls } => {
                 self.line.push('J');
                 self.job(job, true);
                 self.memory(memory);
-                self.list(allowances);
+                self.list(&calls.iter().flat_map(|call| [call.job_number, call.allowance]).collect::<Vec<_>>());
             }
             Request::Card { text, table, args } => {
                 self.line.push('R');
@@ -364,6 +364,15 @@ fn shared<T: Number>(tokens: &mut Tokens, kept: &[T]) -> Result<Vec<T>, String> 
     }
 }
 
+/// The calls of a list: the job number and the allowance of each, alternately.
+fn calls(tokens: &mut Tokens) -> Result<Vec<Call>, String> {
+    let numbers: Vec<u64> = shared(tokens, &[])?;
+    match numbers.as_chunks() {
+        (calls, []) => Ok(calls.iter().map(|&[job_number, allowance]| Call { job_number, allowance }).collect()),
+        _ => Err(format!("{:x} numbers are not a job number and an allowance for each call", numbers.len())),
+    }
+}
+
 fn card_answer(tokens: &mut Tokens) -> Result<CardAnswer, String> {
     Ok(CardAnswer {
         number: number(tokens)?,
@@ -416,11 +425,7 @@ impl Reader {
                 }
             }
             "C" => Request::Compose { job: self.job(tokens, false)?, length: number(tokens)? },
-            "J" => Request::Calls {
-                job: self.job(tokens, true)?,
-                memory: self.memory(tokens)?,
-                allowances: shared(tokens, &[])?,
-            },
+            "J" => Request::Calls { job: self.job(tokens, true)?, memory: self.memory(tokens)?, calls: calls(tokens)? },
             "R" => Request::Card { text: shared(tokens, &[])?, table: number(tokens)?, args: number(tokens)? },
             _ => return Err(format!("{kind:?} is no kind of line")),
         })
@@ -435,9 +440,9 @@ impl Reader {
             Request::Narrow { length, .. } | Request::Compose { length, .. } => {
                 Outcome::Words { number: number(tokens)?, out: shared(tokens, &vec![FILL; *length])? }
             }
-            Request::Calls { allowances, .. } => {
+            Request::Calls { calls, .. } => {
                 let mut answers = Vec::new();
-                for _ in allowances {
+                for _ in calls {
                     let answer = Answer {
                         number: number(tokens)?,
                         layer: number(tokens)?,
@@ -498,8 +503,15 @@ mod tests {
         ] {
             assert!(read(line).is_err(), "{line}");
         }
-        let call = |answer: &str| read(&format!("J 0 0 1 0 1 0 0 0 0 0 1 0 1 5 1 0 0 {answer} 0 = = ="));
+        let call = |answer: &str| read(&format!("J 0 0 1 0 1 0 0 0 0 0 2 0 3 2 3 5 1 0 0 {answer} 0 = = ="));
         assert!(call("0").is_ok() && call("1").is_ok());
         assert!(call("2").is_err());
+        let calls =
+            |list: &str| read(&format!("J 0 0 1 0 1 0 0 0 0 0 2 0 3 {list} 0 0 2 0 3")).map(|case| case.is_some());
+        assert_eq!(calls("0"), Ok(true));
+        assert_eq!(calls("2 3 5 1 0 0 0 0"), Ok(true));
+        for odd in ["1 5", "1 5 1 0 0 0 0", "3 3 5 3 1 0 0 0 0", "3 3 5 3 1 0 0 0 0 1 0 0 0 0"] {
+            assert!(calls(odd).is_err_and(|reason| reason.contains("for each call")), "{odd}");
+        }
     }
 }

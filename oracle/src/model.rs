@@ -1,8 +1,8 @@
 //! Document 01 above the compiled Rust: the table of faults, single compositions, narrowing, and the job
-//! with its phases, work pictures, mark, allowance and answer. Every pixel comes from `reference`, where a layer has a
-//! window by way of `window`.
+//! with its phases, work pictures, mark, allowance and answer; document 02's job number. Every pixel comes from
+//! `reference`, where a layer has a window by way of `window`.
 
-use crate::request::{ARGUMENTS, Answer, COLUMNS, CardAnswer, Job, LAYERS, Layer, Memory, Picture, Side, WINDOW};
+use crate::request::{ARGUMENTS, Answer, COLUMNS, Call, CardAnswer, Job, LAYERS, Layer, Memory, Picture, Side, WINDOW};
 use crate::{card, reference, window};
 
 const SIDE: i64 = 2048;
@@ -71,14 +71,14 @@ pub fn inputs_fault(job: &Job) -> Option<Fault> {
     rows.enumerate().find_map(|(k, row)| row_fault(row, job.samples.len()).map(|number| (number, k as u64)))
 }
 
-/// Faults 9 and 10, for inputs without a fault.
-fn memory_fault(job: &Job, memory: &Memory) -> Option<Fault> {
+/// Faults 9, 10 and 14, for inputs without a fault.
+fn memory_fault(job: &Job, job_number: u64, memory: &Memory) -> Option<Fault> {
     let pixels = (job.width * job.height) as u64;
     if memory.work.iter().any(|work| work.len() as u64 != 4 * pixels) {
         return Some((9, 0));
     }
     match memory.mark[..] {
-        [mark] if mark <= (job.layers as u64 + 1) * pixels => None,
+        [position, number] if position <= (job.layers as u64 + 1) * pixels => (number != job_number).then_some((14, 0)),
         _ => Some((10, 0)),
     }
 }
@@ -161,7 +161,7 @@ fn narrowed(wanted: i64, input: usize) -> Option<usize> {
     ([1, 3, 4].contains(&wanted) && input.is_multiple_of(4)).then_some(input / 4 * wanted as usize)
 }
 
-/// The reference: the compiled Rust with document 01 around it, and document 02's windows and card.
+/// The reference: the compiled Rust with document 01 around it, and document 02's windows, job numbers and card.
 pub struct Reference;
 
 impl Side for Reference {
@@ -197,10 +197,10 @@ impl Side for Reference {
         0
     }
 
-    fn call(&self, job: &Job, allowance: u64, memory: &mut Memory) -> Answer {
-        match inputs_fault(job).or_else(|| memory_fault(job, memory)) {
+    fn call(&self, job: &Job, call: Call, memory: &mut Memory) -> Answer {
+        match inputs_fault(job).or_else(|| memory_fault(job, call.job_number, memory)) {
             Some((number, layer)) => Answer::refused(number, layer),
-            None => accepted(job, allowance, memory),
+            None => accepted(job, call.allowance, memory),
         }
     }
 

@@ -16,7 +16,7 @@ pub fn linked() -> Option<Box<dyn Side>> {
 
 #[cfg(feature = "tray")]
 mod library {
-    use crate::request::{Answer, CardAnswer, Job, Memory, Side};
+    use crate::request::{Answer, Call, CardAnswer, Job, Memory, Side};
     use tray::raw;
 
     /// What the library says of a name: 0 and its operator; or 3, with the operator as it was.
@@ -168,7 +168,7 @@ mod library {
             number
         }
 
-        fn call(&self, job: &Job, allowance: u64, memory: &mut Memory) -> Answer {
+        fn call(&self, job: &Job, call: Call, memory: &mut Memory) -> Answer {
             let inputs = Inputs::new(job);
             let [mut work0, mut work1] = [0, 1].map(|w| Lent::new(&memory.work[w], WORD));
             let mut mark = Lent::new(&memory.mark, LONG);
@@ -176,7 +176,8 @@ mod library {
             let lent = tray::Memory { work0: work0.list_mut(), work1: work1.list_mut(), mark: mark.list_mut() };
             let answers = [&mut layer, &mut stores, &mut finished].map(|answer| &mut answer.list_mut()[0]);
             let [to_layer, to_stores, to_finished] = answers;
-            let number = raw::job(&inputs.lent(job), allowance, lent, to_layer, to_stores, to_finished);
+            let Call { job_number, allowance } = call;
+            let number = raw::job(&inputs.lent(job), job_number, allowance, lent, to_layer, to_stores, to_finished);
             inputs.kept(job);
             memory.work = [&work0, &work1].map(|work| work.around_kept().list().to_vec());
             memory.mark = mark.around_kept().list().to_vec();

@@ -2,7 +2,7 @@
 
 use crate::lines::Request;
 use crate::reference;
-use crate::request::{ARGUMENTS, COLUMNS, Job, Memory, WHOLE, WINDOW, Window};
+use crate::request::{ARGUMENTS, COLUMNS, Call, Job, Memory, WHOLE, WINDOW, Window, under};
 
 /// Words worth trying: zeros, ones and halves, what lies beside them, subnormals, infinities, NaN patterns.
 pub const SPECIAL: [u32; 32] = [
@@ -72,6 +72,14 @@ pub struct Random(u64);
 
 /// The largest width and height that are drawn.
 pub type Sides = (u64, u64);
+
+/// A job whose calls are drawn: its number, the mark's bound, and whether every call has a small allowance.
+struct Work {
+    job: Job,
+    number: u64,
+    bound: u64,
+    slow: bool,
+}
 
 /// How the words of a picture are drawn.
 #[derive(Clone, Copy)]
@@ -355,17 +363,69 @@ impl Random {
     }
 
     /// Work buffers of the right length with any content, and a mark.
-    pub fn memory(&mut self, job: &Job, mark: u64) -> Memory {
+    pub fn memory(&mut self, job: &Job, mark: [u64; 2]) -> Memory {
         let size = (job.width * job.height * 4).clamp(0, 1 << 20) as usize;
-        Memory { work: [self.words(size), self.words(size)], mark: vec![mark] }
+        Memory { work: [self.words(size), self.words(size)], mark: mark.to_vec() }
     }
 
-    fn spoil_memory(&mut self, memory: &mut Memory) {
+    /// A job's number: of any size, 0 and the ends of 32, 53 and 64 bits among them.
+    pub fn job_number(&mut self) -> u64 {
+        match self.below(6) {
+            0 => 0,
+            1 => self.below(16),
+            2 => self.bits() as u32 as u64,
+            3 => self.pick(&[u32::MAX as u64, 1 << 32, 1 << 53, i64::MAX as u64, 1 << 63, u64::MAX]),
+            _ => self.bits(),
+        }
+    }
+
+    /// A number that may be taken for the job's or the mark's, though it is mostly neither.
+    pub fn other_number(&mut self, number: u64, position: u64) -> u64 {
+        match self.below(10) {
+            0 | 1 => 0,
+            2 | 3 => number ^ 1 << self.below(64),
+            // An equal low half, an equal high half, the halves exchanged.
+            4 => number ^ self.bits() << 32,
+            5 => number ^ self.bits() >> 32,
+            6 => number.rotate_left(32),
+            7 => position,
+            8 => number.wrapping_add(self.pick(&[1, u64::MAX])),
+            _ => self.job_number(),
+        }
+    }
+
+    /// A list lent as mark: of no to four numbers, its position within the bound, at it and past it, its number the
+    /// job's or another.
+    fn mark(&mut self, number: u64, bound: u64) -> Vec<u64> {
+        let position = match self.below(8) {
+            0 => self.below(bound + 1),
+            1 => 0,
+            2 => bound,
+            3 => bound + 1,
+            4 => bound + 2 + self.below(5 * bound + 8),
+            // Low halves that are within the bound.
+            5 => self.below(bound + 1) + ((1 + self.below(1 << 31)) << 32),
+            6 => self.pick(&[u64::MAX, 1 << 63, 1 << 32, (1 << 63) + 1]),
+            _ => self.bits(),
+        };
+        let second = if self.one_in(2) { number } else { self.other_number(number, position) };
+        let mut list = vec![position, second];
+        match self.below(8) {
+            0 => list.clear(),
+            1 => list.truncate(1),
+            2 => list.push(self.pick(&[0, number, position])),
+            3 => list.extend([number; 2]),
+            4 => list.swap(0, 1),
+            _ => {}
+        }
+        list
+    }
+
+    fn spoil_memory(&mut self, memory: &mut Memory, number: u64, bound: u64) {
         match self.below(4) {
             0 => self.resize(&mut memory.work[0], 0),
             1 => self.resize(&mut memory.work[1], 0),
-            2 => self.resize(&mut memory.mark, 0),
-            _ => memory.mark = vec![self.pick(&[u64::MAX, 1 << 63, 1 << 32, 100_000])],
+            _ => memory.mark = self.mark(number, bound),
         }
     }
 
@@ -407,35 +467,57 @@ impl Random {
         Request::Compose { job, length }
     }
 
-    /// The calls of one job, in several requests: each finds the memory that the last one left, refused calls
-    /// with other inputs stand among them. `answer` is asked for the memory after each request.
+    /// Calls of a job, of which one in three has a number that is mostly wrong.
+    fn calls(&mut self, count: u64, work: &Work, memory: &Memory) -> Vec<Call> {
+        let position = memory.mark.first().copied().unwrap_or(0);
+        let mut calls = Vec::new();
+        for _ in 0..count {
+            let job_number = if self.one_in(3) { self.other_number(work.number, position) } else { work.number };
+            let allowance = if work.slow { self.below(work.bound / 4 + 8) } else { self.allowance(5 * work.bound) };
+            calls.push(Call { job_number, allowance });
+        }
+        calls
+    }
+
+    /// Calls that are likely to be refused: with other inputs, with other memory, or both.
+    fn refused(&mut self, work: &Work, memory: &Memory) -> Request {
+        let (mut other, mut lent) = (work.job.clone(), memory.clone());
+        let inputs = self.one_in(2);
+        if inputs {
+            self.spoil(&mut other);
+            if self.one_in(3) {
+                self.spoil(&mut other);
+            }
+        }
+        if !inputs || self.one_in(3) {
+            self.spoil_memory(&mut lent, work.number, work.bound);
+        }
+        let count = 1 + self.below(3);
+        Request::Calls { calls: self.calls(count, work, &lent), job: other, memory: lent }
+    }
+
+    /// The calls of one job, in several requests: each finds the memory that the last one left, refused calls with
+    /// other job numbers, inputs and marks stand among them. `answer` is asked for the memory after each request.
     pub fn job_requests(&mut self, mut answer: impl FnMut(Request) -> Memory) {
         let layers = if self.one_in(10) { 1 + self.below(16) } else { 2 + self.below(4) };
         let most = self.sides();
         let job = self.job(layers, most);
-        let pixels = (job.width * job.height) as u64;
-        let (end, total) = ((layers + 1) * pixels, (layers + 1) * pixels * 5);
-        let mark = if self.one_in(5) { self.below(end + 1) } else { 0 };
-        let mut memory = self.memory(&job, mark);
+        let bound = (layers + 1) * (job.width * job.height) as u64;
+        let work = Work { job, number: self.job_number(), bound, slow: self.one_in(2) };
+        let position = if self.one_in(5) { self.below(bound + 1) } else { 0 };
+        let mut memory = self.memory(&work.job, [position, work.number]);
         for _ in 0..1 + self.below(4) {
-            let allowances = (0..1 + self.below(4)).map(|_| self.allowance(total)).collect();
-            memory = answer(Request::Calls { job: job.clone(), memory, allowances });
+            let count = 1 + self.below(6);
+            let calls = self.calls(count, &work, &memory);
+            memory = answer(Request::Calls { job: work.job.clone(), memory, calls });
             if self.one_in(2) {
-                let mut other = job.clone();
-                let mut lent = memory.clone();
-                self.spoil(&mut other);
-                if self.one_in(3) {
-                    self.spoil(&mut other);
-                }
-                if self.one_in(3) {
-                    self.spoil_memory(&mut lent);
-                }
-                let allowances = vec![self.allowance(total)];
-                answer(Request::Calls { job: other, memory: lent, allowances });
+                answer(self.refused(&work, &memory));
             }
         }
-        let rest = vec![self.allowance(total), u64::MAX, 0];
-        answer(Request::Calls { job, memory, allowances: rest });
+        let mut calls = under(work.number, &[self.allowance(5 * bound), u64::MAX, 0]);
+        let at = self.below(calls.len() as u64 + 1) as usize;
+        calls.splice(at..at, self.calls(1, &work, &memory));
+        answer(Request::Calls { job: work.job, memory, calls });
     }
 
     pub fn narrowing(&mut self) -> Request {

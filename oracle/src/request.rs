@@ -56,11 +56,24 @@ pub struct Job {
     pub samples: Vec<u32>,
 }
 
-/// The lists that a job's calls write (document 01: work pictures and mark).
+/// The lists that a job's calls are lent to write (document 01: work pictures and mark). A mark is a position and the
+/// number of the job that it belongs to (document 02, A.5), which no call writes.
 #[derive(Clone, Debug, PartialEq, Default)]
 pub struct Memory {
     pub work: [Vec<u32>; 2],
     pub mark: Vec<u64>,
+}
+
+/// What a call of a job has besides the job's inputs and its memory.
+#[derive(Clone, Copy, Debug, PartialEq, Eq)]
+pub struct Call {
+    pub job_number: u64,
+    pub allowance: u64,
+}
+
+/// Calls under one job number.
+pub fn under(job_number: u64, allowances: &[u64]) -> Vec<Call> {
+    allowances.iter().map(|allowance| Call { job_number, allowance: *allowance }).collect()
 }
 
 #[derive(Clone, Copy, Debug, PartialEq, Eq)]
@@ -105,7 +118,7 @@ pub trait Side {
     fn compose(&self, job: &Job, out: &mut [u32]) -> u64;
     fn narrow(&self, wanted: i64, input: &[u32], out: &mut [u32]) -> u64;
     fn narrow_bytes(&self, wanted: i64, input: &[u32], out: &mut [u8]) -> u64;
-    fn call(&self, job: &Job, allowance: u64, memory: &mut Memory) -> Answer;
+    fn call(&self, job: &Job, call: Call, memory: &mut Memory) -> Answer;
     /// Fills the table and the arguments with a card's layers.
     fn read_card(&self, text: &[u8], table: &mut [i64], args: &mut [u32]) -> CardAnswer;
 }

@@ -1,7 +1,7 @@
 //! The smallest request that still fails: one simplification after the other, as long as the failure stays.
 
 use crate::lines::Request;
-use crate::request::{ARGUMENTS, COLUMNS, Job, LAYERS, Memory, WHOLE, WINDOW};
+use crate::request::{ARGUMENTS, COLUMNS, Call, Job, LAYERS, Memory, WHOLE, WINDOW};
 
 const ONE: u32 = 0x3f80_0000;
 
@@ -129,6 +129,65 @@ fn smaller_cards(text: &[u8], table: usize, args: usize) -> Vec<Request> {
     out
 }
 
+/// A number halved and less by one; none of 0.
+fn less(n: u64) -> impl Iterator<Item = u64> {
+    [n / 2, n.wrapping_sub(1)].into_iter().filter(move |_| n > 0)
+}
+
+/// The same job number made less wherever it stands, in the mark and in the calls, so that what agreed still does.
+fn renumbered(memory: &Memory, calls: &[Call]) -> Vec<(Memory, Vec<Call>)> {
+    let mut out = Vec::new();
+    let held = memory.mark.get(1).copied();
+    for number in held.into_iter().chain(calls.iter().map(|call| call.job_number)) {
+        for small in less(number) {
+            let (mut memory, mut calls) = (memory.clone(), calls.to_vec());
+            memory.mark.iter_mut().skip(1).take(1).filter(|n| **n == number).for_each(|n| *n = small);
+            calls.iter_mut().filter(|call| call.job_number == number).for_each(|call| call.job_number = small);
+            out.push((memory, calls));
+        }
+    }
+    out
+}
+
+/// Memory with a list of zeros.
+fn blank_memories(memory: &Memory) -> Vec<Memory> {
+    let mut out = Vec::new();
+    for w in 0..2 {
+        if memory.work[w].iter().any(|word| *word != 0) {
+            let mut blank = memory.clone();
+            blank.work[w].fill(0);
+            out.push(blank);
+        }
+    }
+    for i in (0..memory.mark.len()).filter(|i| memory.mark[*i] != 0) {
+        let mut blank = memory.clone();
+        blank.mark[i] = 0;
+        out.push(blank);
+    }
+    out
+}
+
+/// Fewer calls, a smaller job, smaller allowances and job numbers, blank memory.
+fn smaller_calls(job: &Job, memory: &Memory, calls: &[Call]) -> Vec<Request> {
+    let made = |job: &Job, memory: Memory, calls: Vec<Call>| Request::Calls { job: job.clone(), memory, calls };
+    let mut out: Vec<Request> = Vec::new();
+    if calls.len() > 1 {
+        out.extend(shorter(calls).into_iter().map(|calls| made(job, memory.clone(), calls)));
+    }
+    out.extend(crops(job, Some(memory)).into_iter().map(|(job, memory)| made(&job, memory, calls.to_vec())));
+    out.extend(simpler(job).iter().map(|job| made(job, memory.clone(), calls.to_vec())));
+    for i in 0..calls.len() {
+        for allowance in less(calls[i].allowance) {
+            let mut small = calls.to_vec();
+            small[i].allowance = allowance;
+            out.push(made(job, memory.clone(), small));
+        }
+    }
+    out.extend(renumbered(memory, calls).into_iter().map(|(memory, calls)| made(job, memory, calls)));
+    out.extend(blank_memories(memory).into_iter().map(|blank| made(job, blank, calls.to_vec())));
+    out
+}
+
 fn smaller(request: &Request) -> Vec<Request> {
     match request {
         Request::Name(name) => shorter(name).into_iter().map(Request::Name).collect(),
@@ -161,35 +220,7 @@ fn smaller(request: &Request) -> Vec<Request> {
             out.extend(simpler(job).into_iter().map(|job| Request::Compose { job, length: *length }));
             out
         }
-        Request::Calls { job, memory, allowances } => {
-            let made = |job: Job, memory: Memory, allowances: Vec<u64>| Request::Calls { job, memory, allowances };
-            let mut out: Vec<Request> = Vec::new();
-            if allowances.len() > 1 {
-                out.extend(shorter(allowances).into_iter().map(|a| made(job.clone(), memory.clone(), a)));
-            }
-            out.extend(crops(job, Some(memory)).into_iter().map(|(job, memory)| made(job, memory, allowances.clone())));
-            out.extend(simpler(job).into_iter().map(|job| made(job, memory.clone(), allowances.clone())));
-            for i in (0..allowances.len()).filter(|i| allowances[*i] > 0) {
-                for less in [allowances[i] / 2, allowances[i] - 1] {
-                    let mut small = allowances.clone();
-                    small[i] = less;
-                    out.push(made(job.clone(), memory.clone(), small));
-                }
-            }
-            for w in 0..2 {
-                if memory.work[w].iter().any(|word| *word != 0) {
-                    let mut blank = memory.clone();
-                    blank.work[w].fill(0);
-                    out.push(made(job.clone(), blank, allowances.clone()));
-                }
-            }
-            if memory.mark.iter().any(|mark| *mark != 0) {
-                let mut blank = memory.clone();
-                blank.mark.fill(0);
-                out.push(made(job.clone(), blank, allowances.clone()));
-            }
-            out
-        }
+        Request::Calls { job, memory, calls } => smaller_calls(job, memory, calls),
         Request::Card { text, table, args } => smaller_cards(text, *table, *args),
     }
 }

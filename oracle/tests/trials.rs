@@ -2,7 +2,7 @@
 
 use oracle::lines::{Outcome, Request, ask};
 use oracle::model::Reference;
-use oracle::request::{Job, Memory, Side, WHOLE, words};
+use oracle::request::{Call, Job, Memory, Side, WHOLE, words};
 use oracle::restated::{Reading, Restated};
 
 const RESTATED: Restated = Restated { reading: Reading::RIGHT };
@@ -115,10 +115,11 @@ fn names() {
 fn calls() {
     let job = Job { width: 2, dst: vec![0; 8], samples: vec![0; 4], ..one(0, [0.0; 4], [0.0; 4]) };
     for side in SIDES {
-        let mut memory = Memory { work: [vec![0; 8], vec![0; 8]], mark: vec![0] };
-        for (allowance, made, mark, finished) in [(7, 7, 1, false), (7, 7, 2, false), (100, 10, 4, true)] {
-            let answer = side.call(&job, allowance, &mut memory);
-            assert_eq!((answer.number, answer.stores, memory.mark[0], answer.finished), (0, made, mark, finished));
+        let mut memory = Memory { work: [vec![0; 8], vec![0; 8]], mark: vec![0, 9] };
+        for (allowance, made, position, finished) in [(7, 7, 1, false), (7, 7, 2, false), (100, 10, 4, true)] {
+            let answer = side.call(&job, Call { job_number: 9, allowance }, &mut memory);
+            assert_eq!((answer.number, answer.stores, answer.finished), (0, made, finished));
+            assert_eq!(memory.mark, [position, 9]);
         }
     }
 }

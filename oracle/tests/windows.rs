@@ -4,7 +4,7 @@ use oracle::lines::{Outcome, Request, ask};
 use oracle::model::{Reference, inputs_fault, layer};
 use oracle::random::Random;
 use oracle::reference;
-use oracle::request::{COLUMNS, Job, Memory, Picture, Side, WHOLE, WINDOW, Window};
+use oracle::request::{COLUMNS, Call, Job, Memory, Picture, Side, WHOLE, WINDOW, Window};
 use oracle::restated::{Reading, Restated};
 
 const RESTATED: Restated = Restated { reading: Reading::RIGHT };
@@ -73,8 +73,8 @@ fn map() {
 fn layers() {
     let job = tiled(&[(SRC, [0, 0, 2, 1]), (CLEAR, [1, 0, 1, 2])]);
     for side in SIDES {
-        let mut memory = Memory { work: [vec![7; 24], vec![8; 24]], mark: vec![0] };
-        let answer = side.call(&job, 90, &mut memory);
+        let mut memory = Memory { work: [vec![7; 24], vec![8; 24]], mark: vec![0, 4] };
+        let answer = side.call(&job, Call { job_number: 4, allowance: 90 }, &mut memory);
         assert_eq!((answer.number, answer.stores, answer.finished), (0, 90, true));
         assert_eq!(memory.work[0].chunks(4).map(|pixel| pixel[0]).collect::<Vec<_>>(), [9, 0, 3, 4, 0, 6]);
         assert_eq!(memory.work[1].chunks(4).map(|pixel| pixel[0]).collect::<Vec<_>>(), [9, 9, 3, 4, 5, 6]);
@@ -89,8 +89,8 @@ fn order() {
         let mut job = whole.clone();
         changes.iter().for_each(|(layer, column, number)| job.table[layer * COLUMNS + column] = *number);
         SIDES.map(|side| {
-            let mut memory = Memory { work: [vec![0; work], vec![0; 24]], mark: vec![99] };
-            let answer = side.call(&job, 5, &mut memory);
+            let mut memory = Memory { work: [vec![0; work], vec![0; 24]], mark: vec![99, 4] };
+            let answer = side.call(&job, Call { job_number: 4, allowance: 5 }, &mut memory);
             (answer.number, answer.layer)
         })
     };
@@ -118,7 +118,7 @@ fn columns() {
         job.table.resize(length, 0);
         for side in SIDES {
             assert_eq!(side.compose(&job, &mut [0; 24]), 1);
-            assert_eq!(side.call(&job, 5, &mut Memory::default()).number, 1);
+            assert_eq!(side.call(&job, Call { job_number: 0, allowance: 5 }, &mut Memory::default()).number, 1);
         }
     }
 }

@@ -3,13 +3,15 @@
 #include <stdio.h>
 #include <stdlib.h>
 #include <string.h>
+#include <sys/mman.h>
+#include <unistd.h>
 
 // The call that is tested: the library's own, or a wrong one that must be found out.
 #ifdef WRONG
 uint64_t wrong_job(
     int64_t, int64_t, int64_t, const uint32_t *, size_t, int64_t, const int64_t *, size_t, const uint32_t *, size_t,
-    const uint32_t *, size_t, uint64_t, uint32_t *, size_t, uint32_t *, size_t, uint64_t *, size_t, uint64_t *, uint64_t *,
-    uint64_t *);
+    const uint32_t *, size_t, uint64_t, uint64_t, uint32_t *, size_t, uint32_t *, size_t, uint64_t *, size_t, uint64_t *,
+    uint64_t *, uint64_t *);
 #define TESTED wrong_job
 #else
 #define TESTED tray_job
@@ -111,11 +113,11 @@ static const uint32_t *older(const Job *job, uint64_t k) {
 }
 
 static void single(const Job *job, int k, const int64_t *row, uint32_t *out) {
-    uint64_t number = tray_compose(
+    uint64_t fault = tray_compose(
         job->width, job->height, 4, job->picture[k], 4 * job->pixels, row, TRAY_COLUMNS, job->args + 4 * k, 4, job->samples,
         job->samples_length, out, 4 * job->pixels);
-    if (number) {
-        printf("layer %d is refused as %llu\n", k, (unsigned long long)number);
+    if (fault) {
+        printf("layer %d is refused as %llu\n", k, (unsigned long long)fault);
         exit(2);
     }
 }
@@ -160,7 +162,7 @@ Job job_new(int64_t width, int64_t height, int64_t channels, int64_t layers, int
     job.dst_length = job.pixels * channels;
     job.samples_length = job.pixels * 4;
     job.work_length[0] = job.work_length[1] = 4 * job.pixels;
-    job.mark_length = 1;
+    job.mark_length = 2;
     job.dst = room(4 * job.dst_length);
     job.samples = room(4 * job.samples_length);
     job.before = room(32 * job.pixels);
@@ -174,6 +176,7 @@ Job job_new(int64_t width, int64_t height, int64_t channels, int64_t layers, int
         fill_row(&job, k, operator, windows[k % strlen(windows)], &seed);
         operator = operator_next(operator);
     }
+    for (int i = 0; i < 3; i++) job.number = job.number << 31 ^ random_next(&seed);
     for (int k = 0; k <= layers; k++) job.picture[k] = room(16 * job.pixels);
     widen(&job, job.picture[0]);
     for (int k = 0; k < layers; k++) compose(&job, k);
@@ -185,24 +188,49 @@ void job_free(Job *job) {
     free(job->dst), free(job->samples), free(job->before);
 }
 
-size_t memory_bytes(const Job *job) { return 64 + 32 * job->pixels; }
+static size_t page(void) { return sysconf(_SC_PAGESIZE); }
+
+// The border of pages between the mark's numbers. The page behind it is the job number's, the work buffers follow.
+static char *border(Memory memory) { return (char *)(memory.mark + 1); }
+
+size_t memory_bytes(const Job *job) { return 2 * page() + 32 * job->pixels; }
 
 Memory memory_at(const Job *job, void *start) {
-    uint32_t *words = (uint32_t *)start + 16;
-    return (Memory){.mark = start, .work = {words, words + 4 * job->pixels}};
+    uint32_t *words = (uint32_t *)((char *)start + 2 * page());
+    uint64_t *number = (uint64_t *)((char *)start + page());
+    return (Memory){.mark = number - 1, .work = {words, words + 4 * job->pixels}};
 }
 
+void memory_protect(const Job *job, Memory memory, int refused) {
+    const int written = refused ? PROT_READ : PROT_READ | PROT_WRITE;
+    int failed = mprotect(border(memory) - page(), page(), job->mark_length > 0 ? written : PROT_NONE);
+    failed |= mprotect(border(memory), page(), job->mark_length > 1 ? PROT_READ : PROT_NONE);
+    failed |= mprotect(border(memory) + page(), 32 * job->pixels, written);
+    if (failed) abort();
+}
+
+const char *memory_forbidden(const Job *job, Memory memory, const void *address) {
+    const char *at = address, *start = border(memory) - page();
+    if (at < start || at >= start + memory_bytes(job)) return 0;
+    const size_t place = (at - start) / page();
+    if (place < 2 && place >= job->mark_length) return "the worker goes past the mark's length";
+    return place == 1 ? "the worker stores the job number" : "the worker stores in a call that is to be refused";
+}
+
+// As a host begins a job: the position first, then the number. A compiler may exchange other stores than volatile ones.
 void memory_begin(const Job *job, Memory memory) {
+    volatile uint64_t *mark = memory.mark;
     memcpy(memory.work[0], job->before, 32 * job->pixels);
-    *memory.mark = 0;
+    mark[0] = 0;
+    mark[1] = job->number;
 }
 
 Answer job_call(const Job *job, Memory memory, uint64_t allowance) {
     Answer answer;
     memset(&answer, 0xee, sizeof answer);  // an answer that is not written shows
-    answer.number = TESTED(
+    answer.fault = TESTED(
         job->width, job->height, job->channels, job->dst, job->dst_length, job->layers, job->table,
-        TRAY_COLUMNS * job->layers, job->args, 4 * job->layers, job->samples, job->samples_length, allowance,
+        TRAY_COLUMNS * job->layers, job->args, 4 * job->layers, job->samples, job->samples_length, job->number, allowance,
         memory.work[0], job->work_length[0], memory.work[1], job->work_length[1], memory.mark, job->mark_length,
         &answer.layer, &answer.stores, &answer.finished);
     return answer;
@@ -212,7 +240,7 @@ uint64_t job_end(const Job *job) { return (job->layers + 1) * job->pixels; }
 
 void memory_store(const Job *job, Memory memory, uint64_t entry) {
     uint64_t mark = entry / 5, channel = entry % 5, k = mark / job->pixels, j = mark % job->pixels;
-    if (channel == 4) *memory.mark = mark + 1;
+    if (channel == 4) memory.mark[0] = mark + 1;
     else memory.work[k % 2][4 * j + channel] = job->picture[k][4 * j + channel];
 }
 
@@ -221,11 +249,15 @@ void memory_after(const Job *job, Memory memory, uint64_t made) {
     for (uint64_t entry = 0; entry < made; entry++) memory_store(job, memory, entry);
 }
 
-// The mark says how many pixels are whole. Of the next one some first channels may be stored; all else must be as the
-// phases before left it.
+int memory_same(const Job *job, Memory a, Memory b) {
+    return a.mark[0] == b.mark[0] && a.mark[1] == b.mark[1] && !memcmp(a.work[0], b.work[0], 32 * job->pixels);
+}
+
+// The position says how many pixels are whole. Of the next one some first channels may be stored; all else must be as the
+// phases before left it, and the job number the job's.
 State memory_state(const Job *job, Memory memory) {
-    uint64_t mark = *memory.mark, n = job->pixels, end = job_end(job);
-    if (mark > end) return (State){0, 0};
+    uint64_t mark = memory.mark[0], n = job->pixels, end = job_end(job);
+    if (mark > end || memory.mark[1] != job->number) return (State){0, 0};
     if (mark == end) return (State){finished_right(job, memory), 5 * end};
     uint64_t k = mark / n, j = mark % n, size = 16 * n, part = 0;
     const uint32_t *writing = memory.work[k % 2], *other = memory.work[(k + 1) % 2];
@@ -237,6 +269,7 @@ State memory_state(const Job *job, Memory memory) {
 
 int finished_right(const Job *job, Memory memory) {
     uint64_t last = job->layers;
-    return *memory.mark == job_end(job) && !memcmp(memory.work[last % 2], job->picture[last], 16 * job->pixels)
+    return memory.mark[0] == job_end(job) && memory.mark[1] == job->number
+        && !memcmp(memory.work[last % 2], job->picture[last], 16 * job->pixels)
         && !memcmp(memory.work[(last + 1) % 2], job->picture[last - 1], 16 * job->pixels);
 }

@@ -14,7 +14,7 @@ enum { CUT, CUT_TILED, CUT_OVERLAID, CUT_MAPPED, SHOWN, COUNTS };
 
 typedef struct {
     int64_t width, height, channels, layers;
-    uint64_t pixels;
+    uint64_t pixels, number;             // 64 random bits as the job's number
     uint32_t *dst, *samples, args[4 * LAYERS];
     size_t dst_length, samples_length;
     int64_t table[TRAY_COLUMNS * LAYERS];
@@ -24,14 +24,16 @@ typedef struct {
     uint64_t off[COUNTS];
 } Job;
 
-// What a job's calls write. The two work buffers stand one after the other, the mark before them.
+// The memory of a job. The two work buffers stand one after the other. The mark's numbers, the position and the job number,
+// lie on both sides of a border of pages, so that one can be written and the other not (memory_protect), and so that the
+// mark is aligned to 8 bytes and not to 16.
 typedef struct {
     uint64_t *mark;
     uint32_t *work[2];
 } Memory;
 
 typedef struct {
-    uint64_t number, layer, stores, finished;
+    uint64_t fault, layer, stores, finished;
 } Answer;
 
 // How a memory stands to the store list.
@@ -59,9 +61,16 @@ int off_window(const Job *job, uint64_t mark);
 // The operators carried, and the one after `operator` among them.
 int operator_next(int operator);
 
+// Memory from the start of a page on.
 size_t memory_bytes(const Job *job);
 Memory memory_at(const Job *job, void *start);
 void memory_begin(const Job *job, Memory memory);
+// Before a worker's call: what the call may not write becomes read-only in this process, so that a store of what is there
+// already shows too. That is the job number, and all memory if the call is to be refused. What a mark's length leaves out
+// cannot be read either.
+void memory_protect(const Job *job, Memory memory, int refused);
+// What a worker does that is stopped at an address for it; none if the address is not of this memory.
+const char *memory_forbidden(const Job *job, Memory memory, const void *address);
 
 Answer job_call(const Job *job, Memory memory, uint64_t allowance);
 uint64_t job_end(const Job *job);
@@ -71,6 +80,8 @@ void memory_after(const Job *job, Memory memory, uint64_t made);
 // One more store.
 void memory_store(const Job *job, Memory memory, uint64_t entry);
 
+// Whether two memories hold the same, with both numbers of the mark.
+int memory_same(const Job *job, Memory a, Memory b);
 State memory_state(const Job *job, Memory memory);
 int finished_right(const Job *job, Memory memory);
 

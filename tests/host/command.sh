@@ -46,6 +46,19 @@ says() {
     [ "$code $said" = "$wanted" ] || wrong "$(printf 'tray %s ends with and says\n%s\nand not\n%s' "$*" "$code $said" "$wanted")"
 }
 
+# same_list JOB OTHER LIST: whether a file is the same in both. Each job has a number of its own: of a mark the position is compared, of a description what
+# is neither the number nor its own digest.
+same_list() {
+    case $3 in
+        mark) cmp -s -n 8 "$1/mark" "$2/mark" ;;
+        job) cmp -s <(grep -v '^number \|^job ' "$1/job") <(grep -v '^number \|^job ' "$2/job") ;;
+        *) cmp -s "$1/$3" "$2/$3" ;;
+    esac
+}
+
+# number JOB: its job number, as its description has it.
+number() { sed -n 's/^number //p' "$1/job"; }
+
 # nothing_left FOLDER.. : no file or folder under way is left there.
 nothing_left() {
     [ -z "$(find "$@" -maxdepth 1 -name '.tray-*')" ] || wrong "left behind: $(find "$@" -maxdepth 1 -name '.tray-*' | tr '\n' ' ')"

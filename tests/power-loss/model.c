@@ -8,16 +8,18 @@
 #include <string.h>
 #include <sys/mman.h>
 #include <sys/stat.h>
+#include <time.h>
 #include <unistd.h>
 
 typedef unsigned long long number;
 
 /* Without a fault: before a phase writes, the picture beneath it is synced, and then the checkpoint is written beside the older one, synced and renamed, and
- * the folder synced. The mapped mark is believed where `held` names this boot and these files, which is written after the mark is set. Elsewhere the checkpoint
- * is believed if the pictures have its digest. */
+ * the folder synced. The mapped mark is the position and the job number, which `make` alone writes, and without which the job is not run. Its position is believed
+ * where `held` names this boot and these files, which is written after the position is set. Elsewhere the checkpoint is believed if the pictures have its digest. */
 static const char *const faults[] = {
     "make-in-place", /* under its own name at once */
     "make-not-synced", /* the files */
+    "number-not-synced", /* the mark alone, which has the job number */
     "make-name-not-synced",
     "picture-not-synced", /* before a checkpoint */
     "picture-synced-late", /* after the checkpoint */
@@ -34,11 +36,12 @@ static const char *const faults[] = {
     "boot-not-compared",
     "files-not-compared",
     "held-before-mark",
+    "number-written", /* by a run, which writes the whole mark and does not ask whose it was */
     "kill-loses", /* the checkpoint alone is ever believed */
     "mark-alone", /* no checkpoint is ever believed, so that nothing is kept */
 };
 
-static number width, height, layers, seed, pixels;
+static number width, height, layers, seed, pixels, job_number;
 static uint32_t *work[2];
 static volatile uint64_t *mark;
 static const char *fault = "";
@@ -129,7 +132,7 @@ static int has_checkpoint(number at) {
 /* Where the job stands, if what is left of it can be believed. */
 static number position(void) {
     number at, sum;
-    if (strcmp(read_file("held"), here()) == 0 && !wrong("kill-loses")) return *mark;
+    if (strcmp(read_file("held"), here()) == 0 && !wrong("kill-loses")) return mark[0];
     if (sscanf(read_file("checkpoint"), "%llu %llu", &at, &sum) != 2 || wrong("mark-alone")) return 0;
     return at <= pixels * (layers + 1) && (wrong("digest-not-compared") || digest(at) == sum) ? at : 0;
 }
@@ -150,13 +153,14 @@ static void boundary(number at) {
 static void lay(number at) {
     number phase = at / pixels, pixel = at % pixels;
     for (number i = 4 * pixel; i < 4 * pixel + 4; i++) work[phase % 2][i] = mixed(phase ? work[(phase - 1) % 2][i] : seed, i + phase);
-    *mark = at + 1;
+    mark[0] = at + 1;
 }
 
 static int run(number allowance, int by_phase) {
     number start = position(), total = pixels * (layers + 1), at = start;
     if (wrong("held-before-mark")) hold();
-    *mark = start;
+    mark[0] = start;
+    if (wrong("number-written")) mark[1] = 0;
     if (!wrong("held-before-mark")) hold();
     int late = wrong("checkpoint-late");
     for (; at < total && at - start < allowance / 5; at++) {
@@ -179,18 +183,27 @@ static void write_list(const char *name, off_t size) {
     close(file);
 }
 
+/* Position 0 and the job's number. */
+static void write_mark(void) {
+    uint64_t begun[2] = {0, job_number};
+    int file = open("mark", O_WRONLY | O_CREAT, 0666), sync = !wrong("make-not-synced") && !wrong("number-not-synced");
+    if (file < 0 || write(file, begun, sizeof begun) != sizeof begun || (sync && fsync(file) != 0)) fail("mark");
+    close(file);
+}
+
 /* Under another name first. */
 static int make(char **words) {
     char text[200], part[1000];
     off_t size = 16 * atoll(words[1]) * atoll(words[2]);
-    snprintf(text, sizeof text, "%s %s %s %s\n", words[1], words[2], words[3], words[4]);
+    job_number = (number)time(NULL) << 32 | (number)getpid();
+    snprintf(text, sizeof text, "%s %s %s %s %llu\n", words[1], words[2], words[3], words[4], job_number);
     snprintf(part, sizeof part, "%s%s", words[0], wrong("make-in-place") ? "" : ".new");
     if ((mkdir(part, 0777) != 0 && errno != EEXIST) || chdir(part) != 0) fail(part);
     static const char *const others[] = {"dst", "table", "args", "samples", "names", "lock"};
     for (size_t i = 0; i < sizeof others / sizeof *others; i++) write_list(others[i], 0);
     write_list("work0", size);
     write_list("work1", size);
-    write_list("mark", 8);
+    write_mark();
     write_file("job", text, 1);
     sync_folder();
     if (strcmp(part, words[0]) != 0 && rename(part, words[0]) != 0) fail(words[0]);
@@ -200,11 +213,15 @@ static int make(char **words) {
 }
 
 static void open_job(const char *job) {
-    if (chdir(job) != 0 || sscanf(read_file("job"), "%llu %llu %llu %llu", &width, &height, &layers, &seed) != 4) fail(job);
+    if (chdir(job) != 0 || sscanf(read_file("job"), "%llu %llu %llu %llu %llu", &width, &height, &layers, &seed, &job_number) != 5) fail(job);
     pixels = width * height;
     work[0] = map("work0", 16 * pixels);
     work[1] = map("work1", 16 * pixels);
-    mark = map("mark", 8);
+    mark = map("mark", 16);
+    if (mark[1] != job_number && !wrong("number-written")) {
+        fprintf(stderr, "model: the mark is another job's\n");
+        exit(4);
+    }
 }
 
 int main(int count, char **words) {

@@ -127,7 +127,12 @@ class Trial:
         write(self.trace, b"")
 
     def mark(self):
-        return int.from_bytes(read(f"{self.job}/mark"), "little")
+        """The mark's position."""
+        return int.from_bytes(read(f"{self.job}/mark")[:8], "little")
+
+    def number(self):
+        """The mark's job number."""
+        return read(f"{self.job}/mark")[8:]
 
     def picture(self, job):
         return read(f"{job}/work{self.layers % 2}")

@@ -1,6 +1,6 @@
 """Trials of `run`: a job is run in parts, some of them killed at an event; then the power is lost, or the folder is copied, or it is left as it is. This may
 happen again, and at the end the job is run to its end. A trial fails if a picture is called finished that is not the uninterrupted job's, if the job is not
-finished at the end, or if what was durable had to be made again."""
+finished at the end, if what was durable had to be made again, or if the mark has another job number then."""
 import os
 import re
 import shutil
@@ -124,13 +124,15 @@ class Running(Trial):
             raise Fault("the job is not finished at the end")
         if self.inputs_now() != self.inputs:
             raise Fault("a run has changed the job's inputs")
+        if self.number() != self.made_with:
+            raise Fault("a run has written the job number")
         if self.what == "lost":
             self.counts["taken up " + ("at the beginning" if start == 0 and self.at_loss else self.place(start))] += 1
 
     def go(self):
         self.make_whole()
         self.must_make(self.job)
-        self.inputs = self.inputs_now()
+        self.inputs, self.made_with = self.inputs_now(), self.number()
         for _ in range(self.random.randint(1, 3)):
             runs = self.random.randint(1, 4)
             for k in range(runs):

@@ -60,7 +60,7 @@ BODIES = {
 LISTS = {"work0": "[ u32 ]", "work1": "[ u32 ]", "checkpoint": "[ u64 ]"}
 INPUTS = {"dst": "& [ u32 ]", "table": "& [ i64 ]", "args": "& [ u32 ]", "samples": "& [ u32 ]"}
 TYPES = INPUTS | {"extent": "Extent", "uses": "& mut u64", "out": "& mut [ u32 ]"}
-NUMBERS = ("shape", "count", "allowance")
+NUMBERS = ("shape", "count", "job", "allowance")
 # The arguments that have not their parameter's name, by function and parameter.
 GIVEN = {"run count": "layers", "writes uses": "& mut uses", "acceptance stores": "uses", "fill out": "& mut buf"}
 # How a body reads a list, the extent and the count. The functions of other crates that write do so into the last argument; READS_LAST reads it.
@@ -69,7 +69,8 @@ READS_LAST = "check"
 # What is lent to be changed beneath the job: `out`, in the last place but for `put`, and a list of the function's own.
 LENT = ("out : & mut [ u32 ] )", "out : & mut [ u32 ] , )", "fn put ( out : & mut [ u32 ]", "& mut own", "& mut out [ at .. ]", "let mut")
 
-# Each name of the two crates with the path that imports it; `job` itself is never imported.
+# Each name of the two crates with the path that imports it. The crate `job` is named by its path, so nothing is imported as `job`; the job number has that name
+# too, and is a parameter alone.
 PATHS = {"job": "nothing"}
 for file, names in ITEMS.items():
     module = file.split("/")[-1].replace("lib.rt", "").replace(".rt", "::")

@@ -56,3 +56,7 @@ CARD = 12
 -- document 02: a number of a layer's window
 abbrev pub WINDOW : ℕ
 WINDOW = 13
+
+-- document 02: the checkpoint's job number is not the call's
+abbrev pub JOB-NUMBER : ℕ
+JOB-NUMBER = 14

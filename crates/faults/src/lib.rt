@@ -33,4 +33,6 @@ impl Fault {
     pub const CARD: u64 = 12;
 
     pub const WINDOW: u64 = 13;
+
+    pub const JOB_NUMBER: u64 = 14;
 }

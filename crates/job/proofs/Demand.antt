@@ -15,16 +15,16 @@ use lib.Seq.{ext-getD, take-all, take-take, take-length}
 use Rattle.faults.specs.Faults.{NONE}
 use Rattle.layers.specs.Inputs.{Inputs}
 use Rattle.job.specs.declared.Write.{Write}
-use Rattle.job.specs.Memory.{Mem, memOf, positionOf, stored, workOf}
+use Rattle.job.specs.Memory.{Mem, memOf, positionOf, jobNumberOf, stored, workOf}
 use Rattle.job.specs.Job.{pixelCount, phaseAt, layerCount, endOf, callFault, acceptance}
 use Rattle.job.specs.Call.{madeOf, leftBy, outcome, acceptedOf, callOf}
 use Rattle.job.specs.Loans.{lent}
 use Rattle.job.specs.Model.{pictureOf, entriesOf, Call, allowed, cut, refused, modelOf}
 use Rattle.job.specs.Demand.{programOf, history, memoryAfter, FairCall, Fair, beneathIn, beneathOf, Underway, Demand3}
 use Rattle.job.specs.Uses.{batchOf, Midway}
-use Rattle.job.proofs.Runs.{place-div, start-midway}
+use Rattle.job.proofs.Runs.{stored-number, place-div, start-midway}
 use Rattle.job.proofs.Sequence.{work-length, picture-length, left-length, Beneath, Here, begun-again, Progress, Made, made}
-use Rattle.job.proofs.Checked.{some-pixel, call-midway, midway-call, call-made, call-refused}
+use Rattle.job.proofs.Checked.{some-pixel, call-number, own-number, two-numbers, call-midway, midway-call, call-made, call-refused}
 use Rattle.job.proofs.Loans.{returned-same}
 use Rattle.job.proofs.Uses.{uses-are}
 
@@ -56,9 +56,9 @@ module _ (i : Inputs) (n : ℕ) (m : Mem) (v : Progress i m) where
   left-is : leftBy i n m ≡ after
   left-is = all .same ∙ rw (← (left-length i (positionOf m)), take-min)
 
-  call-is : callOf i n m ≡ outcome after (acceptance (length entries) (eqb (positionOf after) (endOf i)))
+  call-is : callOf i (jobNumberOf m) n m ≡ outcome after (acceptance (length entries) (eqb (positionOf after) (endOf i)))
   unfolding acceptedOf
-  call-is = rw (← (call-made i n m (v .fit)), left-is, length-take, left-length)
+  call-is = rw (← (call-made i n m _ (v .fit)), left-is, length-take, left-length)
 
   left-midway : Midway (batchOf i n m) (madeOf i n m) after
   left-midway = rw left-is at (start-midway (call-midway i m (v .fit) n) (madeOf i n m))
@@ -76,28 +76,35 @@ module _ (i : Inputs) (n : ℕ) (m : Mem) (v : Progress i m) where
 -- ---- calls one after the other
 
 module _ (i : Inputs) where
-  program-is : (m : Mem) (c : Call) → Progress i m → FairCall m c → programOf i m c ≡ modelOf i m c
+  program-is : (m : Mem) (c : Call) → Progress i m → FairCall m c → programOf i (jobNumberOf m) m c ≡ modelOf i m c
   unfolding programOf modelOf
   program-is m (allowed n) v f = rw (call-is i n m v)
   program-is m (cut n k) v f = rw (call-is i (min k n) m v, take-cut)
-  program-is m (refused inputs n loan uncut) v f = rw (← (call-refused inputs n (lent loan m) refl f), returned-same loan m)
+  program-is m (refused inputs number n loan uncut) v f = rw (← (call-refused inputs n (lent loan m) number refl f), returned-same loan m)
 
   stays : (m : Mem) (c : Call) → Progress i m → Progress i (modelOf i m c .mem)
   unfolding modelOf
   stays m (allowed n) v = stays-one i n m v
   stays m (cut n k) v = rw take-cut at (stays-one i (min k n) m v)
-  stays m (refused inputs n loan uncut) v = v
+  stays m (refused inputs number n loan uncut) v = v
 
-  calls-are : (m : Mem) (cs : List Call) → Progress i m → Fair i m cs
-      → (history (programOf i) m cs ≡ history (modelOf i) m cs)
-      × (memoryAfter (programOf i) m cs ≡ memoryAfter (modelOf i) m cs)
+  number-stays : (m : Mem) (c : Call) → jobNumberOf (modelOf i m c .mem) ≡ jobNumberOf m
+  unfolding modelOf
+  number-stays m (allowed n) = stored-number _ m
+  number-stays m (cut n k) = stored-number _ m
+  number-stays m (refused inputs number n loan uncut) = refl
+
+  calls-are : (job : ℕ) (m : Mem) (cs : List Call) → jobNumberOf m ≡ job → Progress i m → Fair i m cs
+      → (history (programOf i job) m cs ≡ history (modelOf i) m cs)
+      × (memoryAfter (programOf i job) m cs ≡ memoryAfter (modelOf i) m cs)
       × Progress i (memoryAfter (modelOf i) m cs)
+      × (jobNumberOf (memoryAfter (modelOf i) m cs) ≡ job)
   unfolding history memoryAfter Fair
-  calls-are m [] v f = (refl, refl, v)
-  calls-are m (c ∷ cs) v f =
-      let e = program-is m c v (f .0) in
-      let r = calls-are (modelOf i m c .mem) cs (stays m c v) (f .1) in
-      (rw (e, r .0), rw e (r .1), r .2)
+  calls-are job m [] own v f = (refl, refl, v, own)
+  calls-are job m (c ∷ cs) own v f =
+      let e = rw own at (program-is m c v (f .0)) in
+      let r = calls-are job (modelOf i m c .mem) cs (number-stays m c ∙ own) (stays m c v) (f .1) in
+      (rw (e, r .0), rw e (r .1), r .2, r .3)
 
 -- ---- what lies under the position
 
@@ -123,7 +130,7 @@ module _ (i : Inputs) (m : Mem) (v : Progress i m) where
 
 -- ---- calls on memory that a call can take up
 
-module _ (i : Inputs) (m : Mem) where
+module _ (i : Inputs) (job : ℕ) (m : Mem) where
   below-of : (k : ℕ) → beneathIn i m k ≡ beneathOf i k → Beneath i m k
   below-of zero h b e = absurd (omega arith)
   below-of (suc k) h b e = let x : b ≡ k = omega arith in rw x h
@@ -131,41 +138,46 @@ module _ (i : Inputs) (m : Mem) where
   underway-here : Underway i m → Here i m (positionOf m) 0
   underway-here u = record { right = rw add-zero (u .written); below = below-of (phaseAt i (positionOf m)) (u .beneath) }
 
-  from-here : Progress i m → (calls : List Call) → Fair i m calls → Demand3 i m calls
-  from-here v calls f =
-      let r = calls-are i m calls v f in
+  from-here : jobNumberOf m ≡ job → Progress i m → (calls : List Call) → Fair i m calls → Demand3 i job m calls
+  from-here own v calls f =
+      let r = calls-are i job m calls own v f in
       let end = memoryAfter (modelOf i) m calls in
+      let p = r .2 in
+      let o = r .3 in
       record {
         same = r .0;
         memory = r .1;
-        finished = rw (r .1) (finished-is i end (r .2));
-        earlier = rw (r .1) (earlier-is i end (r .2));
-        gain = rw (r .1) (λ n. rw (call-is i n end (r .2)) (gained i n end (r .2)));
-        uses = rw (r .1) (λ n ws. uses-are i end n ws (r .2));
+        number = rw (r .1) (two-numbers i _ end (p .fit) ∙ rw o);
+        accepted = rw (r .1, ← o) (p .fit);
+        finished = rw (r .1) (finished-is i end p);
+        earlier = rw (r .1) (earlier-is i end p);
+        gain = rw (r .1) (λ n. rw (← o) (rw (call-is i n end p) (gained i n end p)));
+        uses = rw (r .1) (λ n ws. uses-are i end n ws p);
       }
 
 -- DEMAND 3, taken up: the same from any memory in which a call has no fault, the picture being written is right up to the position and the one beneath it
 -- is whole. What the work buffers hold beyond may be anything: so a job may be taken up from a position that was kept together with these pictures alone.
 pub taken-up :
-    (i : Inputs) (m : Mem)
-    → callFault i m .number ≡ NONE
+    (i : Inputs) (job : ℕ) (m : Mem)
+    → callFault i job m .number ≡ NONE
     → Underway i m
     → (calls : List Call)
     → Fair i m calls
-    → Demand3 i m calls
-taken-up i m e u = from-here i m (record { fit = e; here = λ z. underway-here i m u })
+    → Demand3 i job m calls
+taken-up i job m e u =
+    from-here i job m (call-number i job m e) (record { fit = own-number i job m e; here = λ z. underway-here i job m u })
 
--- DEMAND 3. Of any job that is free of faults at position 0, whatever its work buffers hold, any list of calls, with any allowances, any of them cut
--- after any number of writes, refused ones among them with whatever inputs and whatever lists, leaves and answers what the reference model says.
+-- DEMAND 3. Of any job that is free of faults at position 0 under its number, whatever its work buffers hold, any list of calls, with any allowances, any
+-- of them cut after any number of writes, refused ones among them with whatever inputs, numbers and lists, leaves and answers what the reference model says.
 pub demand-3 :
-    (i : Inputs) (work0 work1 : List ℕ)
-    → callFault i (memOf work0 work1 (0 ∷ [])) .number ≡ NONE
+    (i : Inputs) (job : ℕ) (work0 work1 : List ℕ)
+    → callFault i job (memOf work0 work1 (0 ∷ job ∷ [])) .number ≡ NONE
     → (calls : List Call)
-    → Fair i (memOf work0 work1 (0 ∷ [])) calls
-    → Demand3 i (memOf work0 work1 (0 ∷ [])) calls
-demand-3 i work0 work1 e =
-    let m = memOf work0 work1 (0 ∷ []) in
-    from-here i m (record {
+    → Fair i (memOf work0 work1 (0 ∷ job ∷ [])) calls
+    → Demand3 i job (memOf work0 work1 (0 ∷ job ∷ [])) calls
+demand-3 i job work0 work1 e =
+    let m = memOf work0 work1 (0 ∷ job ∷ []) in
+    from-here i job m refl (record {
       fit = e;
       here = λ z. record { right = rw zero-mod refl; below = λ b x. absurd (omega (arith, zero-div (pixelCount i))) };
     })

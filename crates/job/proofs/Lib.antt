@@ -5,4 +5,5 @@ pub mod Sequence
 pub mod Loans
 pub mod Uses
 pub mod Demand
+pub mod JobNumber
 pub mod Windows

@@ -21,10 +21,10 @@ returned-same l m = simp back-same
 
 -- an example: a call with a job's inputs that is lent too short a slice of work buffer 0, such as all but its last four words, is refused with WORK
 pub short-work :
-    (i : Inputs) (m : Mem) (first count : ℕ) (work1 : Slot 32) (checkpoint : Slot 64)
+    (i : Inputs) (job : ℕ) (m : Mem) (first count : ℕ) (work1 : Slot 32) (checkpoint : Slot 64)
     → jobFault i .number ≡ NONE
     → count < 4 * pixelCount i
-    → callFault i (lent (record { work0 = ofWork0 first count; work1 = work1; checkpoint = checkpoint }) m) ≡ verdict WORK 0
+    → callFault i job (lent (record { work0 = ofWork0 first count; work1 = work1; checkpoint = checkpoint }) m) ≡ verdict WORK 0
 unfolding callFault memoryFault
-short-work i m first count work1 checkpoint fit few =
+short-work i job m first count work1 checkpoint fit few =
     rw (eq-eqb _ _ fit, ne-eqb (length (slice first count (m .work0))) (4 * pixelCount i) (λ e. omega (arith, rw length-take at e)))

@@ -8,14 +8,14 @@ use Prim.Native.Nat.{ℕ, zero, suc, _+_, _*_, _/_, _%_, _<_, _≤_}
 use native.Mathlib.Nat.{add-zero, zero-add, add-suc, add-assoc, mul-add-div-right, mul-add-mod-self-right, div-eq-of-lt, mod-eq-of-lt, eq-zero-or-pos, eq-or-lt-of-le}
 use native.Mathlib.Omega.{arith}
 use lib.Dec.{eqb}
-use lib.ListN.{length, getD, set, length-set}
-use lib.Seq.{getD-set-same}
+use lib.ListN.{length, getD, set, drop, length-set}
+use lib.Seq.{getD-set-same, getD-drop}
 use borrow.Author.Tests.{eq-eqb, ne-eqb}
 use Rattle.layers.specs.Inputs.{Inputs}
 use Rattle.pictures.specs.Widen.{rgbaAt}
 use Rattle.job.specs.declared.Write.{Write}
 use Rattle.job.specs.declared.Write.the-variants.{Work0, Work1, Checkpoint}
-use Rattle.job.specs.Memory.{Mem, put, stored, workOf, wordWrite, writeOf, positionOf}
+use Rattle.job.specs.Memory.{Mem, put, stored, workOf, wordWrite, writeOf, positionOf, jobNumberOf}
 use Rattle.job.specs.Job.{pixelCount, phaseAt, pixelAt, endOf}
 use Rattle.job.specs.Call.{phasePixel, writeAt, runOf}
 use Rattle.job.specs.Uses.{Sized, Batch, Midway}
@@ -34,6 +34,24 @@ put-sized : {i : Inputs} (w : Write) (m : Mem) → Sized i m → Sized i (put w 
 put-sized (Work0 at word) m z = omega (arith, length-set (m .work0) at word)
 put-sized (Work1 at word) m z = omega (arith, length-set (m .work1) at word)
 put-sized (Checkpoint position) m z = omega (arith, length-set (m .checkpoint) 0 position)
+
+-- of the checkpoint all but the position
+drop-set : (xs : List ℕ) (x : ℕ) → drop 1 (set xs 0 x) ≡ drop 1 xs
+drop-set [] x = refl
+drop-set (y ∷ ys) x = refl
+
+pub put-kept : (w : Write) (m : Mem) → drop 1 (put w m .checkpoint) ≡ drop 1 (m .checkpoint)
+put-kept (Work0 at word) m = refl
+put-kept (Work1 at word) m = refl
+put-kept (Checkpoint position) m = drop-set (m .checkpoint) position
+
+stored-kept : (ws : List Write) (m : Mem) → drop 1 (stored ws m .checkpoint) ≡ drop 1 (m .checkpoint)
+unfolding stored
+stored-kept [] m = refl
+stored-kept (w ∷ ws) m = stored-kept ws (put w m) ∙ put-kept w m
+
+pub stored-number : (ws : List Write) (m : Mem) → jobNumberOf (stored ws m) ≡ jobNumberOf m
+stored-number ws m = sym (getD-drop 1 (stored ws m .checkpoint) 0 0) ∙ rw (stored-kept ws m) (getD-drop 1 (m .checkpoint) 0 0)
 
 -- a list of writes, and one more
 pub stored-snoc : (ws : List Write) (w : Write) (m : Mem) → stored (ws ++ (w ∷ [])) m ≡ put w (stored ws m)

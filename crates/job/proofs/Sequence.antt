@@ -17,7 +17,7 @@ use Rattle.pictures.specs.FlatWords.{flat}
 use Rattle.pictures.proofs.FlatWords.{length-flat, flat-pixel}
 use Rattle.job.specs.declared.Write.{Write}
 use Rattle.job.specs.declared.Write.the-variants.{Checkpoint}
-use Rattle.job.specs.Memory.{Mem, positionOf, put, stored, workOf, wordWrite, fiveWrites, writeOf}
+use Rattle.job.specs.Memory.{Mem, positionOf, jobNumberOf, put, stored, workOf, wordWrite, fiveWrites, writeOf}
 use Rattle.job.specs.Job.{pixelCount, layerCount, phaseAt, pixelAt, endOf, callFault}
 use Rattle.job.specs.Call.{phasePixel, writeAt, runOf}
 use Rattle.job.specs.Uses.{Works, Sized}
@@ -193,7 +193,7 @@ module _ (i : Inputs) where
 
   -- a job without a fault, as each call finds it
   pub record Progress (m : Mem) : Type 0 where
-    pub fit : callFault i m .number ≡ 0
+    pub fit : callFault i (jobNumberOf m) m .number ≡ 0
     pub here : 0 < n → Here m (positionOf m) 0
 
   -- after t writes of a call it has made t entries of the sequence

@@ -18,7 +18,7 @@ use Rattle.job.specs.Job.{endOf, callFault}
 use Rattle.job.specs.Call.{writeAt, runOf, acceptedOf, callOf}
 use Rattle.job.specs.Uses.{Batch, batchOf, Midway, NextUse, UsesFrom}
 use Rattle.job.specs.Model.{writeSequence, entriesOf}
-use Rattle.job.proofs.Checked.{call-midway, call-made}
+use Rattle.job.proofs.Checked.{own-number, call-midway, call-made}
 use Rattle.job.proofs.Parts.{ran-midway, use-ran}
 use Rattle.job.proofs.Sequence.{sequence-length, entry, Progress, write-next, made}
 
@@ -59,17 +59,17 @@ module _ (i : Inputs) (m : Mem) (allowance : ℕ) where
 
   -- After n uses of an accepted call, made one after the other from the count 0 on, memory is what the call, allowed n, leaves.
   pub uses-leave :
-      (ws : List Write)
-      → callFault i m .number ≡ NONE
+      (job : ℕ) (ws : List Write)
+      → callFault i job m .number ≡ NONE
       → UsesFrom (batchOf i allowance m) 0 m ws
       → (n : ℕ)
       → n ≤ length ws
-      → stored (take n ws) m ≡ callOf i n m .mem
+      → stored (take n ws) m ≡ callOf i job n m .mem
   unfolding runOf acceptedOf
-  uses-leave ws e u n h =
+  uses-leave job ws e u n h =
       let l = few b 0 m ws (omega arith) u in
       let all : n ≤ 5 * (endOf i - positionOf m) = omega arith in
-      rw (leave 0 m ws refl u n h, zero-add, ← (call-made i n m e), min-eq-left)
+      rw (leave 0 m ws refl u n h, zero-add, ← (call-made i n m job e), min-eq-left)
 
   -- From memory that is right up to its position, as each call of a job finds it (proofs/Demand), they are the model's entries, from the first on.
   pub uses-are : (ws : List Write) → Progress i m → UsesFrom (batchOf i allowance m) 0 m ws → ws ≡ take (length ws) (entriesOf i allowance m)
@@ -92,7 +92,7 @@ can {b} {u} {m} (suc n) h l =
     ((x, r .0), ap suc (r .1))
 
 pub uses-can :
-    (i : Inputs) (m : Mem) (allowance : ℕ)
-    → callFault i m .number ≡ NONE
+    (i : Inputs) (job : ℕ) (m : Mem) (allowance : ℕ)
+    → callFault i job m .number ≡ NONE
     → let b = batchOf i allowance m in let ws = usesOf b 0 (b .due) m in UsesFrom b 0 m ws × (length ws ≡ b .due)
-uses-can i m allowance e = can _ (call-midway i m e allowance) (omega arith)
+uses-can i job m allowance e = can _ (call-midway i m (own-number i job m e) allowance) (omega arith)

@@ -39,11 +39,11 @@ module _ (i : Inputs) where
         ∙ ap (λ (p : List ℕ). flat (unwindowedAt (i .samples) l w n (rgbaAt p 4)) 0 (pixelCount i)) (pictures-unwindowed k (omega arith))
 
     pub finished-unwindowed :
-        (work0 work1 : List ℕ)
-        → callFault i (memOf work0 work1 (0 ∷ [])) .number ≡ NONE
+        (job : ℕ) (work0 work1 : List ℕ)
+        → callFault i job (memOf work0 work1 (0 ∷ job ∷ [])) .number ≡ NONE
         → (calls : List Call)
-        → Fair i (memOf work0 work1 (0 ∷ [])) calls
-        → positionOf (memoryAfter (programOf i) (memOf work0 work1 (0 ∷ [])) calls) ≡ endOf i
-        → workOf (layerCount i) (memoryAfter (programOf i) (memOf work0 work1 (0 ∷ [])) calls) ≡ unwindowedPicture i (layerCount i)
-    finished-unwindowed work0 work1 e calls f done =
-        demand-3 i work0 work1 e calls f .finished done ∙ pictures-unwindowed (layerCount i) (omega arith)
+        → Fair i (memOf work0 work1 (0 ∷ job ∷ [])) calls
+        → positionOf (memoryAfter (programOf i job) (memOf work0 work1 (0 ∷ job ∷ [])) calls) ≡ endOf i
+        → workOf (layerCount i) (memoryAfter (programOf i job) (memOf work0 work1 (0 ∷ job ∷ [])) calls) ≡ unwindowedPicture i (layerCount i)
+    finished-unwindowed job work0 work1 e calls f done =
+        demand-3 i job work0 work1 e calls f .finished done ∙ pictures-unwindowed (layerCount i) (omega arith)

@@ -52,7 +52,7 @@ unfoldable pub acceptedOf : Inputs → (allowance : ℕ) → Mem → Outcome
 acceptedOf i allowance m =
     let after = leftBy i allowance m in record { mem = after; answer = acceptance (madeOf i allowance m) (eqb (positionOf after) (endOf i)) }
 
--- what a call leaves and answers
-unfoldable pub callOf : Inputs → (allowance : ℕ) → Mem → Outcome
-callOf i allowance m =
-    cond (eqb (callFault i m .number) NONE) (acceptedOf i allowance m) (record { mem = m; answer = refusal (callFault i m) })
+-- what a call under the number `job` leaves and answers
+unfoldable pub callOf : Inputs → (job allowance : ℕ) → Mem → Outcome
+callOf i job allowance m =
+    cond (eqb (callFault i job m .number) NONE) (acceptedOf i allowance m) (record { mem = m; answer = refusal (callFault i job m) })

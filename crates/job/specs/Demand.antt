@@ -17,12 +17,13 @@ use Rattle.job.specs.Model.{pictureOf, entriesOf, Call, allowed, cut, re
 
 -- ---- the program's calls
 
--- What a call of the program leaves and answers, by its contract. A call cut after so many writes is a call allowed so many.
-unfoldable pub programOf : Inputs → Mem → Call → Seen
-programOf i m (allowed allowance) = record { mem = callOf i allowance m .mem; told = callOf i allowance m .answer ∷ [] }
-programOf i m (cut allowance writes) = record { mem = callOf i (min writes allowance) m .mem; told = [] }
-programOf i m (refused inputs allowance loan uncut) =
-    let o = callOf inputs allowance (lent loan m) in
+-- What a call of the program leaves and answers, by its contract; the job's own calls are under its number `job`. A call cut after so many writes is a
+-- call allowed so many.
+unfoldable pub programOf : Inputs → (job : ℕ) → Mem → Call → Seen
+programOf i job m (allowed allowance) = record { mem = callOf i job allowance m .mem; told = callOf i job allowance m .answer ∷ [] }
+programOf i job m (cut allowance writes) = record { mem = callOf i job (min writes allowance) m .mem; told = [] }
+programOf i job m (refused inputs number allowance loan uncut) =
+    let o = callOf inputs number allowance (lent loan m) in
     record { mem = returned loan m (o .mem); told = cond uncut (o .answer ∷ []) [] }
 
 -- ---- lists of calls
@@ -41,7 +42,7 @@ memoryAfter step m (c ∷ cs) = memoryAfter step (step m c .mem) cs
 abbrev pub FairCall : Mem → Call → Type 0
 FairCall m (allowed allowance) = Unit {0}
 FairCall m (cut allowance writes) = Unit {0}
-FairCall m (refused inputs allowance loan uncut) = callFault inputs (lent loan m) .number ≡ NONE → ⊥
+FairCall m (refused inputs number allowance loan uncut) = callFault inputs number (lent loan m) .number ≡ NONE → ⊥
 
 unfoldable pub Fair : Inputs → Mem → List Call → Type 0
 Fair i m [] = Unit {0}
@@ -64,24 +65,28 @@ pub record Underway (i : Inputs) (m : Mem) : Type 0 where
       let k = phaseAt i (positionOf m) in let n = 4 * pixelAt i (positionOf m) in take n (workOf k m) ≡ take n (pictureOf i k)
   pub beneath : let k = phaseAt i (positionOf m) in beneathIn i m k ≡ beneathOf i k
 
-pub record Demand3 (i : Inputs) (start : Mem) (calls : List Call) : Type 0 where
+pub record Demand3 (i : Inputs) (job : ℕ) (start : Mem) (calls : List Call) : Type 0 where
   -- call for call, the program leaves the model's bits and gives the model's answers
-  pub same : history (programOf i) start calls ≡ history (modelOf i) start calls
+  pub same : history (programOf i job) start calls ≡ history (modelOf i) start calls
   -- and after the whole list
-  pub memory : memoryAfter (programOf i) start calls ≡ memoryAfter (modelOf i) start calls
+  pub memory : memoryAfter (programOf i job) start calls ≡ memoryAfter (modelOf i) start calls
+  -- the checkpoint is still two numbers, and the second one the job's
+  pub number : let m = memoryAfter (programOf i job) start calls in m .checkpoint ≡ positionOf m ∷ job ∷ []
+  -- a further call of the job has no fault
+  pub accepted : callFault i job (memoryAfter (programOf i job) start calls) .number ≡ NONE
   -- under a finished position lies the last picture, in work (layers mod 2)
   pub finished :
-      positionOf (memoryAfter (programOf i) start calls) ≡ endOf i
-      → workOf (layerCount i) (memoryAfter (programOf i) start calls) ≡ pictureOf i (layerCount i)
+      positionOf (memoryAfter (programOf i job) start calls) ≡ endOf i
+      → workOf (layerCount i) (memoryAfter (programOf i job) start calls) ≡ pictureOf i (layerCount i)
   -- under an earlier one
-  pub earlier : positionOf (memoryAfter (programOf i) start calls) < endOf i → Underway i (memoryAfter (programOf i) start calls)
+  pub earlier : positionOf (memoryAfter (programOf i job) start calls) < endOf i → Underway i (memoryAfter (programOf i job) start calls)
   -- a further call, uncut and allowed n writes, gains floor(n / 5) pixels, or all that are left
   pub gain :
       (n : ℕ)
-      → positionOf (callOf i n (memoryAfter (programOf i) start calls) .mem)
-      ≡ min (positionOf (memoryAfter (programOf i) start calls) + n / 5) (endOf i)
+      → positionOf (callOf i job n (memoryAfter (programOf i job) start calls) .mem)
+      ≡ min (positionOf (memoryAfter (programOf i job) start calls) + n / 5) (endOf i)
   -- and its uses of `store`, one after the other as the contract of `store` allows them, are the model's entries, from the first on
   pub uses :
       (n : ℕ) (ws : List Write)
-      → let m = memoryAfter (programOf i) start calls in
+      → let m = memoryAfter (programOf i job) start calls in
       UsesFrom (batchOf i n m) 0 m ws → ws ≡ take (length ws) (entriesOf i n m)

@@ -4,12 +4,12 @@ use mathlib.Core.Bool.{Bool, false, cond}
 use Prim.Native.Nat.{ℕ, _+_, _*_, _/_, _%_}
 use lib.Dec.{eqb, ltb}
 use lib.ListN.{length}
-use Rattle.faults.specs.Faults.{NONE, WORK, MARK}
+use Rattle.faults.specs.Faults.{NONE, WORK, MARK, JOB-NUMBER}
 use Rattle.layers.specs.declared.Verdict.{Verdict}
 use Rattle.pictures.specs.Shapes.{natOf}
 use Rattle.layers.specs.Inputs.{Inputs, verdict, jobFault}
 use Rattle.job.specs.declared.Answer.{Answer}
-use Rattle.job.specs.Memory.{Mem, positionOf}
+use Rattle.job.specs.Memory.{Mem, positionOf, jobNumberOf}
 
 -- ---- a job's numbers
 
@@ -33,18 +33,19 @@ endOf i = (layerCount i + 1) * pixelCount i
 
 -- ---- the checks
 
--- WORK and MARK. The checkpoint is one number, its position.
-unfoldable pub memoryFault : (pixels end : ℕ) → Mem → ℕ
-memoryFault pixels end m =
+-- WORK, MARK and JOB NUMBER, of a call under the number `job`. The checkpoint is two numbers, its position and its job's number.
+unfoldable pub memoryFault : (pixels end job : ℕ) → Mem → ℕ
+memoryFault pixels end job m =
     cond (eqb (length (m .work0)) (4 * pixels))
     (cond (eqb (length (m .work1)) (4 * pixels))
-    (cond (eqb (length (m .checkpoint)) 1)
-    (cond (ltb end (positionOf m)) MARK NONE)
+    (cond (eqb (length (m .checkpoint)) 2)
+    (cond (ltb end (positionOf m)) MARK
+    (cond (eqb (jobNumberOf m) job) NONE JOB-NUMBER))
     MARK) WORK) WORK
 
 -- the first fault of a call: of its inputs, else of its memory
-unfoldable pub callFault : Inputs → Mem → Verdict
-callFault i m = cond (eqb (jobFault i .number) NONE) (verdict (memoryFault (pixelCount i) (endOf i) m) 0) (jobFault i)
+unfoldable pub callFault : Inputs → (job : ℕ) → Mem → Verdict
+callFault i job m = cond (eqb (jobFault i .number) NONE) (verdict (memoryFault (pixelCount i) (endOf i) job m) 0) (jobFault i)
 
 -- ---- the answers
 

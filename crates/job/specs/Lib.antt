@@ -7,3 +7,4 @@ pub mod Steps
 pub mod Loans
 pub mod Model
 pub mod Demand
+pub mod Unnumbered

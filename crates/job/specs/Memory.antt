@@ -1,5 +1,6 @@
 -- The memory that a job is lent (document 01, "Stores and the mark"): two work buffers (document 01: work pictures) and a checkpoint (document 01:
--- mark), a list with the job's position at index 0. One write (document 01: a store) changes one number. Definitions only.
+-- mark), a list with the job's position at index 0 and the job's number at index 1 (document 02, A.5). One write (document 01: a store) changes one
+-- number. Definitions only.
 use mathlib.Core.Bool.{cond}
 use mathlib.Core.List.{List, [], _∷_}
 use Prim.Native.Nat.{ℕ, _+_, _*_, _%_}
@@ -28,6 +29,10 @@ left work0 work1 checkpoint = memOf (after work0) (after work1) (after checkpoin
 -- the job's position: the pixels that it has written, over all pictures
 abbrev pub positionOf : Mem → ℕ
 positionOf m = getD (m .checkpoint) 0 0
+
+-- the number of the job that the checkpoint belongs to; no write changes it
+abbrev pub jobNumberOf : Mem → ℕ
+jobNumberOf m = getD (m .checkpoint) 1 0
 
 -- the memory after one write
 abbrev pub put : Write → Mem → Mem

@@ -1,5 +1,5 @@
--- The reference model of a job (document 01: the account), written from document 01 alone: the pictures, the write sequence (document 01: the store
--- list), and what each kind of call does to the job's memory and answers. Definitions only.
+-- The reference model of a job (document 01: the account), written from documents 01 and 02 alone: the pictures, the write sequence (document 01: the
+-- store list), and what each kind of call does to the job's memory and answers. Definitions only.
 use mathlib.Core.Bool.{Bool, cond}
 use mathlib.Core.List.{List, [], _∷_, _++_}
 use Prim.Native.Nat.{ℕ, zero, suc, _+_, _*_}
@@ -47,12 +47,12 @@ writeSequence i = blocks (pictureWrites i) 0 (layerCount i + 1)
 -- ---- the calls
 
 pub data Call : Type 0 where
-  -- a call with the job's inputs, work buffers and checkpoint, allowed so many writes
+  -- a call with the job's inputs, number, work buffers and checkpoint, allowed so many writes
   allowed : (allowance : ℕ) → Call
   -- the same, cut after so many writes
   cut : (allowance writes : ℕ) → Call
-  -- a call that is refused, with whatever inputs, allowance and lists; uncut or not
-  refused : Inputs → (allowance : ℕ) → Loan → (uncut : Bool) → Call
+  -- a call that is refused, with whatever inputs, number, allowance and lists; uncut or not
+  refused : Inputs → (number allowance : ℕ) → Loan → (uncut : Bool) → Call
 
 -- what is seen of a call: the job's memory after it, and its answer if it was not cut
 pub record Seen : Type 0 where
@@ -69,5 +69,5 @@ modelOf i m (allowed allowance) =
     let after = stored entries m in
     record { mem = after; told = acceptance (length entries) (eqb (positionOf after) (endOf i)) ∷ [] }
 modelOf i m (cut allowance writes) = record { mem = stored (take writes (entriesOf i allowance m)) m; told = [] }
-modelOf i m (refused inputs allowance loan uncut) =
-    record { mem = m; told = cond uncut (refusal (callFault inputs (lent loan m)) ∷ []) [] }
+modelOf i m (refused inputs number allowance loan uncut) =
+    record { mem = m; told = cond uncut (refusal (callFault inputs number (lent loan m)) ∷ []) [] }

@@ -21,7 +21,7 @@ pub record Works (pixels : ℕ) (work0 work1 : List ℕ) : Type 0 where
 -- lists of the lengths that a job asks for
 pub record Sized (i : Inputs) (m : Mem) : Type 0 where
   pub works : Works (pixelCount i) (m .work0) (m .work1)
-  pub checkpoint : length (m .checkpoint) ≡ 1
+  pub checkpoint : length (m .checkpoint) ≡ 2
 
 -- The writes of an accepted call: those of the job with these inputs, from the position `start` on, `due` of them.
 pub record Batch : Type 0 where

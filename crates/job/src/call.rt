@@ -4,7 +4,7 @@ ghost use Prim.Native.Nat.{_+_, _*_, _≤_};
 ghost use lib.Dec.{eqb};
 ghost use Rattle.faults.specs.Faults.{NONE};
 ghost use Rattle.layers.specs.Inputs.{inputsOf, inputs};
-ghost use Rattle.job.specs.Memory.{found, left};
+ghost use Rattle.job.specs.Memory.{found, left, jobNumberOf};
 ghost use Rattle.job.specs.Steps.{held, mostPosition};
 ghost use Rattle.job.specs.Job.{memoryFault, callFault, acceptance};
 ghost use Rattle.job.specs.Call.{outcome, acceptedOf, callOf};
@@ -21,10 +21,17 @@ use pictures::shapes::height_of;
 use pictures::shapes::natural;
 use pictures::shapes::width_of;
 
-// The fault of the lent memory.
-fn memory_fault(pixels: usize, end: usize, work0: &[u32], work1: &[u32], checkpoint: &[u64]) -> u64
+// The fault of the memory that is lent to a call under the number `job`.
+fn memory_fault(
+    pixels: usize,
+    end: usize,
+    job: u64,
+    work0: &[u32],
+    work1: &[u32],
+    checkpoint: &[u64],
+) -> u64
     requires { ⌜ 4 * pixels ≤ mostPosition ⌝ }
-    ensures { λ r. ⌜ r ≡ memoryFault pixels end (found work0 work1 checkpoint) ⌝ }
+    ensures { λ r. ⌜ r ≡ memoryFault pixels end job (found work0 work1 checkpoint) ⌝ }
 {
     if work0.len() != 4 * pixels {
         return Fault::WORK;
@@ -32,11 +39,14 @@ fn memory_fault(pixels: usize, end: usize, work0: &[u32], work1: &[u32], checkpo
     if work1.len() != 4 * pixels {
         return Fault::WORK;
     }
-    if checkpoint.len() != 1 {
+    if checkpoint.len() != 2 {
         return Fault::MARK;
     }
     if end < checkpoint[0] as usize {
         return Fault::MARK;
+    }
+    if checkpoint[1] != job {
+        return Fault::JOB_NUMBER;
     }
     Fault::NONE
 }
@@ -49,12 +59,13 @@ fn fault(
     table: &[i64],
     args: &[u32],
     samples: &[u32],
+    job: u64,
     work0: &[u32],
     work1: &[u32],
     checkpoint: &[u64],
 ) -> Verdict
     ensures { λ r. ⌜
-        r ≡ callFault (inputs shape dst count table args samples) (found work0 work1 checkpoint)
+        r ≡ callFault (inputs shape dst count table args samples) job (found work0 work1 checkpoint)
         ⌝ }
 {
     let v = check(shape, dst, count, table, args, samples);
@@ -64,8 +75,8 @@ fn fault(
     let pixels = width_of(shape) * height_of(shape);
     let end = (natural(count) + 1) * pixels;
     Verdict {
-        number: memory_fault(pixels, end, work0, work1, checkpoint),
-        layer: 0,
+        number: memory_fault(pixels, end, job, work0, work1, checkpoint),
+        layer: 0, // a fault of the memory concerns no layer
     }
 }
 
@@ -81,7 +92,7 @@ fn acceptance(stores: u64, position: u64, end: u64) -> Answer
     }
 }
 
-// A call without a fault.
+// A call without a fault, under the checkpoint's number.
 fn accepted(
     shape: Shape,
     dst: &[u32],
@@ -95,8 +106,8 @@ fn accepted(
     checkpoint: &mut [u64],
 ) -> Answer
     requires { ⌜
-        callFault (inputsOf shape (now dst) count (now table) (now args) (now samples)) (held work0 work1 checkpoint) .number
-        ≡ NONE
+        (let mem = held work0 work1 checkpoint in
+        callFault (inputsOf shape (now dst) count (now table) (now args) (now samples)) (jobNumberOf mem) mem .number ≡ NONE)
         ⌝ }
     ensures { λ r. ⌜
         outcome (left work0 work1 checkpoint) r
@@ -132,7 +143,7 @@ fn accepted(
     acceptance(uses, checkpoint[0], end as u64)
 }
 
-// A call of a job, allowed so many writes. Its whole outcome, for every input and whatever the lists hold, is `callOf`.
+// A call of a job under the number `job`, allowed so many writes. Its whole outcome, for every input and whatever the lists hold, is `callOf`.
 pub fn run(
     shape: Shape,
     dst: &[u32],
@@ -140,6 +151,7 @@ pub fn run(
     table: &[i64],
     args: &[u32],
     samples: &[u32],
+    job: u64,
     allowance: u64,
     work0: &mut [u32],
     work1: &mut [u32],
@@ -147,7 +159,7 @@ pub fn run(
 ) -> Answer
     ensures { λ r. ⌜
         outcome (left work0 work1 checkpoint) r
-        ≡ callOf (inputs shape dst count table args samples) allowance (found work0 work1 checkpoint)
+        ≡ callOf (inputs shape dst count table args samples) job allowance (found work0 work1 checkpoint)
         ⌝ }
 {
     let v = fault(
@@ -157,6 +169,7 @@ pub fn run(
         table,
         args,
         samples,
+        job,
         work0,
         work1,
         checkpoint,

@@ -7,7 +7,7 @@ mod fill; // fill.rt: pixels of one phase, composed into a buffer
 mod pixel; // pixel.rt: the writes of a pixel, and of a span, from the buffer
 mod store; // store.rt: the one function that writes
 
-// One write (document 01: a store): a word of work buffer 0 or 1, or the job's position.
+// One write (document 01: a store): a word of work buffer 0 or 1, or the job's position. None changes the checkpoint's other number, the job's.
 enum Write {
     Work0 { at: usize, word: u32 },
     Work1 { at: usize, word: u32 },

@@ -111,8 +111,9 @@ pub extern "C" fn tray_narrow_bytes(wanted: i64, input: &[u32], output: &mut [u8
     narrowing::narrow_bytes(wanted, input, output)
 }
 
-// A call of a job, allowed so many stores: the number of the first fault, or 0; its layer, the stores made and whether the job is finished (1 or 0) are
-// written to the last three. `work0`, `work1` and `checkpoint` hold the job between calls. A refused call leaves them as they were.
+// A call of a job under its number, allowed so many stores: the number of the first fault, or 0; its layer, the stores made and whether the job is
+// finished (1 or 0) are written to the last three. `work0`, `work1` and `checkpoint`, the position and the job's number, hold the job between calls. A
+// refused call leaves them as they were, and every call the job's number.
 #[no_mangle]
 pub extern "C" fn tray_job(
     width: i64,
@@ -123,6 +124,7 @@ pub extern "C" fn tray_job(
     table: &[i64],
     args: &[u32],
     samples: &[u32],
+    job: u64,
     allowance: u64,
     work0: &mut [u32],
     work1: &mut [u32],
@@ -133,7 +135,7 @@ pub extern "C" fn tray_job(
 ) -> u64
     ensures { λ r. ⌜
         hostOutcome (left work0 work1 checkpoint) r (after layer) (after stores) (after finished)
-        ≡ jobOutcome (callOf (inputs (shapeOf width height channels) dst layers table args samples) allowance (found work0 work1 checkpoint))
+        ≡ jobOutcome (callOf (inputs (shapeOf width height channels) dst layers table args samples) job allowance (found work0 work1 checkpoint))
         ⌝ }
 {
     let shape = Shape {
@@ -148,6 +150,7 @@ pub extern "C" fn tray_job(
         table,
         args,
         samples,
+        job,
         allowance,
         work0,
         work1,

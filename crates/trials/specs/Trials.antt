@@ -52,7 +52,7 @@ pub data Case : Type 0 where
   -- the operator that a name spells, or the number under which it is refused
   name : String → ℕ → Case
   unknown : String → ℕ → Case
-  -- calls of a job with so many stores: of each the stores made, the mark after it, and 1 where it finished, by the program's definition and by the
+  -- calls of a job with so many stores: of each the stores made, the position after it, and 1 where it finished, by the program's definition and by the
   -- reference model (document 01: the account)
   job : List ℕ → List ℕ → Case
 
@@ -80,6 +80,10 @@ nameAnswer text = nameOf (fromName (bytes text)) 70
 abbrev pub sameAnswer : NameAnswer → ℕ → ℕ → Bool
 sameAnswer a number operator = eqb (a .number) number && eqb (a .operator) operator
 
+-- the number of the job, which the values do not depend on
+abbrev pub number : ℕ
+number = 77
+
 -- a destination of 2 by 1 pixels and one layer, Over with all channels and the window of a card of edition 1, on work buffers that hold anything
 abbrev pub twoByOne : Inputs
 twoByOne =
@@ -89,7 +93,7 @@ twoByOne =
     (0x3e80_0000 ∷ [])
 
 abbrev pub begun : Mem
-begun = memOf (9 ∷ 9 ∷ 9 ∷ 9 ∷ 9 ∷ 9 ∷ 9 ∷ 9 ∷ []) (7 ∷ 7 ∷ 7 ∷ 7 ∷ 7 ∷ 7 ∷ 7 ∷ 7 ∷ []) (0 ∷ [])
+begun = memOf (9 ∷ 9 ∷ 9 ∷ 9 ∷ 9 ∷ 9 ∷ 9 ∷ 9 ∷ []) (7 ∷ 7 ∷ 7 ∷ 7 ∷ 7 ∷ 7 ∷ 7 ∷ 7 ∷ []) (0 ∷ number ∷ [])
 
 -- of each call, as a row has it
 abbrev pub numbers : List Seen → List ℕ
@@ -116,7 +120,7 @@ holds (pixel op s d r) = sameWords (pixelOf op unused (pixelAt s) (pixelAt d)) r
 holds (centre dst src r) = sameInteger (placementOf Centre dst dst src src (pos 0) (pos 0) .x) r
 holds (tile offset width column r) = isAt (axisIndex true width (pos column -ℤ pos offset)) r
 holds (name text r) = sameAnswer (nameAnswer text) NONE r
-holds (job allowances r) = sameList (calls (programOf twoByOne) allowances) r && sameList (calls (modelOf twoByOne) allowances) r
+holds (job allowances r) = sameList (calls (programOf twoByOne number) allowances) r && sameList (calls (modelOf twoByOne) allowances) r
 holds (unknown text r) = sameAnswer (nameAnswer text) r 70
 
 abbrev pub all : List Case → Bool

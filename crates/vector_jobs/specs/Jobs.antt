@@ -33,13 +33,15 @@ outcomeAt line at o =
     (positionOf (o .mem)))
     (o .mem)
 
--- a call, and the calls one after the other
-abbrev pub callAt : List ℕ → Inputs → ℕ → Played → Played
-callAt line inputs allowance p = outcomeAt line (p .next) (jobOutcome (callOf inputs allowance (p .mem)))
+-- a call
+abbrev pub callAt : List ℕ → Inputs → (job allowance : ℕ) → Played → Played
+callAt line inputs job allowance p = outcomeAt line (p .next) (jobOutcome (callOf inputs job allowance (p .mem)))
 
-unfoldable pub callsAt : List ℕ → Inputs → List ℕ → Played → Played
+-- the calls one after the other: of each its job number, then its allowance; a number that is left over is out of form
+unfoldable pub callsAt : List ℕ → Inputs → (calls : List ℕ) → Played → Played
 callsAt line inputs [] p = p
-callsAt line inputs (allowance ∷ rest) p = callsAt line inputs rest (callAt line inputs allowance p)
+callsAt line inputs (job ∷ []) p = played nowhere (p .mem)
+callsAt line inputs (job ∷ allowance ∷ rest) p = callsAt line inputs rest (callAt line inputs job allowance p)
 
 -- ---- a line of a job
 
@@ -58,14 +60,14 @@ abbrev pub backFrom : (counts : List ℕ) → Mem → Played → Played
 backFrom counts m p = played (p .next) (backOn counts m (p .mem))
 
 -- no call is made where a count is more than there is room for
-unfoldable pub calledAt : List ℕ → Inputs → (allowances counts : List ℕ) → Played → Played
-calledAt line inputs allowances counts p =
+unfoldable pub calledAt : List ℕ → Inputs → (calls counts : List ℕ) → Played → Played
+calledAt line inputs calls counts p =
     cond
     (ltb (length (p .mem .work0)) (getD counts 5 0)
     || ltb (length (p .mem .work1)) (getD counts 6 0)
     || ltb (length (p .mem .checkpoint)) (getD counts 7 0))
     (played nowhere (p .mem))
-    (backFrom counts (p .mem) (callsAt line inputs allowances (played (p .next) (lentOn counts (p .mem)))))
+    (backFrom counts (p .mem) (callsAt line inputs calls (played (p .next) (lentOn counts (p .mem)))))
 
 -- the calls, and after them the memory that they must leave; '=' there is the memory before them
 unfoldable pub leftOn : List ℕ → Worked → Played → Worked
@@ -73,16 +75,16 @@ leftOn line w p =
     leftAt line (worked (p .next) (w .work0) (w .work1) (w .checkpoint) (w .counts)) (p .mem .work0) (p .mem .work1) (p .mem .checkpoint)
 
 unfoldable pub calledOn : List ℕ → Inputs → Worked → Listed ℕ → Worked
-calledOn line inputs w allowances =
+calledOn line inputs w calls =
     leftOn line w
-    (calledAt line inputs (given allowances) (w .counts) (played (allowances .next) (memOf (w .work0) (w .work1) (w .checkpoint))))
+    (calledAt line inputs (given calls) (w .counts) (played (calls .next) (memOf (w .work0) (w .work1) (w .checkpoint))))
 
-unfoldable pub allowedAt : List ℕ → Inputs → Worked → Worked
-allowedAt line inputs w = calledOn line inputs w (longsAt line (w .next) (replicate 16 0) 0)
+unfoldable pub askedAt : List ℕ → Inputs → Worked → Worked
+askedAt line inputs w = calledOn line inputs w (longsAt line (w .next) (replicate 32 0) 0)
 
--- WORK0 WORK1 MARK ALLOWANCES: the calls' answers, WORK0 WORK1 MARK
+-- WORK0 WORK1 MARK CALLS: the calls' answers, WORK0 WORK1 MARK
 abbrev pub playedAt : List ℕ → Inputs → Worked → Worked
-playedAt line inputs w = allowedAt line inputs (memoryAt line w)
+playedAt line inputs w = askedAt line inputs (memoryAt line w)
 
 -- the lists of the layers, and those of the memory with the place and all the counts
 pub record Jobbed : Type 0 where

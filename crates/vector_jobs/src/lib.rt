@@ -32,7 +32,8 @@ use vector_rooms::layers;
 use vector_rooms::memory;
 use vector_rooms::shape_of;
 
-// J width height channels DST layers TABLE ARGS SAMPLES WORK0 WORK1 MARK ALLOWANCES: number layer stores finished mark for each call, WORK0 WORK1 MARK.
+// J width height channels DST layers TABLE ARGS SAMPLES WORK0 WORK1 MARK CALLS: number layer stores finished mark for each call, WORK0 WORK1 MARK. CALLS has
+// each call's job number and allowance, one after the other.
 pub fn job(
     line: &[u8],
     dst: &mut Picture,
@@ -73,7 +74,7 @@ pub fn job(
     )
 }
 
-// Reads the memory and the allowances, makes the calls, and holds the memory that they leave against what the line says.
+// Reads the memory and what each call is given, makes the calls, and holds the memory that they leave against what the line says.
 fn played(
     line: &[u8],
     at: usize,
@@ -94,22 +95,22 @@ fn played(
         ⌝ }
 {
     let after_memory = memory(line, at, work0, work1, checkpoint, counts);
-    let mut allowances = [0u64; 16];
-    let mut calls: usize = 0;
-    let after_allowances = longs(line, after_memory, &mut allowances, &mut calls);
+    let mut calls = [0u64; 32];
+    let mut numbers: usize = 0;
+    let after_numbers = longs(line, after_memory, &mut calls, &mut numbers);
     let mut due0 = *work0;
     let mut due1 = *work1;
     let mut due_checkpoint = *checkpoint;
     let after_calls = called(
         line,
-        after_allowances,
+        after_numbers,
         shape,
         dst,
         layers,
         table,
         args,
         samples,
-        first_longs(&allowances, calls),
+        first_longs(&calls, numbers),
         work0,
         work1,
         checkpoint,
@@ -128,7 +129,7 @@ fn played(
     )
 }
 
-// The calls, each with its allowance, on the parts of the memory that are lent.
+// The calls, each with its job number and allowance, on the parts of the memory that are lent.
 fn called(
     line: &[u8],
     at: usize,
@@ -138,7 +139,7 @@ fn called(
     table: &[i64],
     args: &[u32],
     samples: &[u32],
-    allowances: &[u64],
+    calls: &[u64],
     work0: &mut [u32],
     work1: &mut [u32],
     checkpoint: &mut [u64],
@@ -146,7 +147,7 @@ fn called(
 ) -> usize
     ensures { λ r. let inputs = inputsIn shape dst layers table args samples in ⌜
         played r (left work0 work1 checkpoint)
-        ≡ calledAt (before line) inputs (before allowances) (before counts) (played at (found work0 work1 checkpoint))
+        ≡ calledAt (before line) inputs (before calls) (before counts) (played at (found work0 work1 checkpoint))
         ⌝ }
 {
     let n0 = counts[AT_WORK0];
@@ -170,7 +171,7 @@ fn called(
         table,
         args,
         samples,
-        allowances,
+        calls,
         &mut work0[0..n0],
         &mut work1[0..n1],
         &mut checkpoint[0..n],
@@ -186,21 +187,22 @@ fn calls_on(
     table: &[i64],
     args: &[u32],
     samples: &[u32],
-    allowances: &[u64],
+    calls: &[u64],
     work0: &mut [u32],
     work1: &mut [u32],
     checkpoint: &mut [u64],
 ) -> usize
     ensures { λ r. let inputs = inputsIn shape dst layers table args samples in ⌜
         played r (left work0 work1 checkpoint)
-        ≡ callsAt (before line) inputs (before allowances) (played from (found work0 work1 checkpoint))
+        ≡ callsAt (before line) inputs (before calls) (played from (found work0 work1 checkpoint))
         ⌝ }
 {
     let mut at = from;
     let mut i = 0;
-    while i < allowances.len() {
-        let allowance = allowances[i];
-        i += 1;
+    while i + 1 < calls.len() {
+        let job = calls[i];
+        let allowance = calls[i + 1];
+        i += 2;
         at = call(
             line,
             at,
@@ -210,11 +212,15 @@ fn calls_on(
             table,
             args,
             samples,
+            job,
             allowance,
             work0,
             work1,
             checkpoint,
         );
+    }
+    if i < calls.len() {
+        return NOWHERE;
     }
     at
 }
@@ -229,6 +235,7 @@ fn call(
     table: &[i64],
     args: &[u32],
     samples: &[u32],
+    job: u64,
     allowance: u64,
     work0: &mut [u32],
     work1: &mut [u32],
@@ -236,7 +243,7 @@ fn call(
 ) -> usize
     ensures { λ r. let inputs = inputsIn shape dst layers table args samples in ⌜
         played r (left work0 work1 checkpoint)
-        ≡ callAt (before line) inputs allowance (played at (found work0 work1 checkpoint))
+        ≡ callAt (before line) inputs job allowance (played at (found work0 work1 checkpoint))
         ⌝ }
 {
     let mut layer: u64 = 0;
@@ -251,6 +258,7 @@ fn call(
         table,
         args,
         samples,
+        job,
         allowance,
         work0,
         work1,

@@ -1,6 +1,6 @@
 //! Times the proved library's job call against the Rust's `compose_float`, both on one thread, and prints the tables of
 //! README.md. Both compose the same layer on the same destination, four channels each; the results are compared word by
-//! word. Ours is a job of one layer from mark 0: two phases, all its stores and marks. The Rust's buffers are made anew in
+//! word. Ours is a job of one layer from its begin: two phases, all its stores and marks. The Rust's buffers are made anew in
 //! each call; it is timed with the allocator as a process starts, and in another process with one that gives no memory
 //! back. There pixman and ImageMagick are timed too, where they are installed, for the operators that they have. Each
 //! ratio is of times taken in turn in the same process: ours is timed in both, and never against a time of the other.

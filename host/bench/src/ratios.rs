@@ -6,9 +6,12 @@ use crate::turns::{Side, median, turns};
 use oracle::composite::Composite;
 use oracle::deep::FloatImage;
 use std::hint::black_box;
-use tray::{Memory, Stack};
+use tray::{JobNumber, Memory, Stack};
 
 const NAN: u32 = 0x7fc0_0000;
+
+/// The number of every job here: one is finished before the next begins.
+const NUMBER: JobNumber = JobNumber(1);
 
 /// A job's memory.
 pub struct Work([Vec<u32>; 2]);
@@ -24,7 +27,7 @@ impl Work {
     }
 }
 
-/// The library's job call, from a mark to the end.
+/// The library's job call, from a position to the end.
 pub struct Ours<'a> {
     pub pair: &'a Pair,
     pub stack: Stack,
@@ -36,7 +39,11 @@ impl Side for Ours<'_> {
     fn run(&mut self) {
         let [work0, work1] = &mut self.work.0;
         let inputs = self.pair.inputs(&self.stack);
-        let done = tray::job(black_box(&inputs), u64::MAX, Memory { work0, work1, mark: &mut [self.from] });
+        let mut mark = [0; 2];
+        tray::begin(&mut mark, NUMBER);
+        mark[0] = self.from;
+        let memory = Memory { work0, work1, mark: &mut mark };
+        let done = tray::job(black_box(&inputs), black_box(NUMBER), u64::MAX, memory);
         assert!(done.expect("no fault").finished);
     }
 }

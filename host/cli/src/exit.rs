@@ -48,6 +48,7 @@ impl Exit {
             (Some(ended), _) => ended.exit,
             (None, Some(tray_folder::Error::Busy(_))) => Exit::Busy,
             (None, Some(tray_folder::Error::Refused(_, tray::Error::Refused(_)))) => Exit::Refused,
+            (None, Some(tray_folder::Error::AnothersMark { .. })) => Exit::Refused,
             _ => Exit::Other,
         }
     }
@@ -119,6 +120,9 @@ mod tests {
         assert_eq!(Exit::of(&tray_folder::Error::Busy("job".into()).into()), Exit::Busy);
         let mark = tray::Error::Refused(Refusal { fault: Fault::Mark, layer: 0 });
         assert_eq!(Exit::of(&tray_folder::Error::Refused("job".into(), mark).into()), Exit::Refused);
+        let (mark, job) = (tray::JobNumber(1), tray::JobNumber(2));
+        let anothers = tray_folder::Error::AnothersMark { folder: "job".into(), mark, job };
+        assert_eq!(Exit::of(&anothers.into()), Exit::Refused);
         assert_eq!(Exit::of(&anyhow::anyhow!("else")), Exit::Other);
     }
 

@@ -36,7 +36,7 @@ enum Action {
     Make(make::Make),
     /// Run a job from its mark on, to the end or as far as an allowance goes
     Run(run::Run),
-    /// Show how far a job is
+    /// Show how far a job is, and its number
     Status(status::Status),
     /// Write a job's picture as PNG, PFM, TIFF or raw words
     Export(export::Export),

@@ -12,7 +12,7 @@ use tray_folder::Folder;
 pub struct Status {
     /// The job's folder
     job: PathBuf,
-    /// One line of JSON: folder, width, height, channels, layers, mark, total, finished, worker; and phase (0 is the destination's, the last one a finished job's), layer (from 0, null in phase 0), pixels (written in this phase), windows (of each layer left, top, width and height; 0, 0, 2048, 2048 is the full one)
+    /// One line of JSON: folder, width, height, channels, layers, mark, total, finished, worker; and phase (0 is the destination's, the last one a finished job's), layer (from 0, null in phase 0), pixels (written in this phase), windows (of each layer left, top, width and height; 0, 0, 2048, 2048 is the full one), job_number (a text of sixteen hexadecimal digits; zeros for a job from before there were any)
     #[arg(long)]
     json: bool,
 }
@@ -41,11 +41,12 @@ fn words(folder: &Folder, state: &State) -> Result<String> {
     let total = folder.total();
     let percent = if total == 0 { 100.0 } else { 100.0 * mark as f64 / total as f64 };
     Ok(format!(
-        "{}: {}, {}, {}; {}\nmark {mark} of {total} ({percent:.1} %): {}",
+        "{}: {}, {}, {}; job number {}; {}\nmark {mark} of {total} ({percent:.1} %): {}",
         folder.path().display(),
         sides(folder.width(), folder.height()),
         count(folder.channels() as u64, "channel"),
         count(folder.layers() as u64, "layer"),
+        folder.number(),
         if worker { "a worker has it" } else { "no worker" },
         place(folder, state)?
     ))
@@ -87,11 +88,11 @@ fn json(folder: &Folder, state: &State) -> Result<String> {
     let layer = phase.checked_sub(1).map_or("null".to_string(), |layer| layer.to_string());
     let path = quoted(&folder.path().to_string_lossy());
     let windows: Vec<String> = folder.windows()?.iter().map(|window| format!("[{window}]")).collect();
-    let windows = windows.join(",");
+    let (windows, number) = (windows.join(","), folder.number());
     Ok(format!(
         "{{\"folder\":{path},\"width\":{width},\"height\":{height},\"channels\":{channels},\"layers\":{layers},\
         \"mark\":{mark},\"total\":{total},\"finished\":{finished},\"worker\":{worker},\
-        \"phase\":{phase},\"layer\":{layer},\"pixels\":{pixels},\"windows\":[{windows}]}}"
+        \"phase\":{phase},\"layer\":{layer},\"pixels\":{pixels},\"windows\":[{windows}],\"job_number\":\"{number}\"}}"
     ))
 }
 

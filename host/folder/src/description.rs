@@ -1,23 +1,27 @@
 //! The file `job`: a job's numbers, and a digest of each of its inputs as it was made. An example:
 //!
 //! ```text
-//! tray-job-3 100 80 4 5 32000
+//! tray-job-4 100 80 4 5 32000
+//! number 8d3c5e0f71a2946b
 //! dst b188ea0fda1fb783
 //! table 75de40470c0e9ec4
 //! args 2beef07ef789fc9c
 //! samples 2bdf70b266e2504c
-//! job 5db1afcae18c38d0
+//! job 5d963b3ac24fdcfc
 //! ```
 //!
-//! The numbers are width, height, channels, layers, samples; the last line's digest is of the lines before it.
+//! The first line's numbers are width, height, channels, layers, samples. The second is the job number, which each call carries and
+//! which stands in the mark too. The last line's digest is of the lines before it.
 //!
-//! A folder of edition 2 was made when layers had no windows: its table has ten numbers a layer, and all else is the same. It is
-//! taken over with full windows, with which the library makes the same pictures (`full-held` and `pictures-unwindowed`,
-//! crates/job/proofs/Windows.antt), so that its mark and its checkpoint keep their meaning. It stays of its edition and none of its
-//! inputs is rewritten: a loss of power never finds it half taken over, and the digests, which are of the files as they are, hold.
+//! A folder of edition 3 was made when jobs had no numbers: its mark is the position alone, and it is taken over with the number 0
+//! (list.rs says how such a mark is lent as two numbers). One of edition 2 was made when layers had no windows either: its table
+//! has ten numbers a layer, and it is taken over with full windows, with which the library makes the same pictures (`full-held`
+//! and `pictures-unwindowed`, crates/job/proofs/Windows.antt). In both the mark and the checkpoint keep their meaning. A folder stays
+//! of its edition, and nothing in it is rewritten but what any worker writes: a loss of power never finds it half taken over, the
+//! digests, which are of the files as they are, hold, and the command that made it can go on with it.
 
 use crate::digest::digest;
-use tray::{Inputs, COLUMNS, LAYERS, SIDE};
+use tray::{Inputs, JobNumber, COLUMNS, LAYERS, SIDE};
 
 /// The window of a layer that was made when there were none: all pixels of any destination that there could be then.
 const FULL: [i64; 4] = [0, 0, 2048, 2048];
@@ -26,17 +30,19 @@ const FULL: [i64; 4] = [0, 0, 2048, 2048];
 #[derive(Clone, Copy, Debug, PartialEq)]
 pub enum Edition {
     WithoutWindows,
-    Windows,
+    WithoutNumber,
+    Numbered,
 }
 
 impl Edition {
-    const ALL: [Edition; 2] = [Edition::WithoutWindows, Edition::Windows];
+    const ALL: [Edition; 3] = [Edition::WithoutWindows, Edition::WithoutNumber, Edition::Numbered];
 
     /// The first word of the description.
     fn word(self) -> &'static str {
         match self {
             Edition::WithoutWindows => "tray-job-2",
-            Edition::Windows => "tray-job-3",
+            Edition::WithoutNumber => "tray-job-3",
+            Edition::Numbered => "tray-job-4",
         }
     }
 
@@ -44,7 +50,7 @@ impl Edition {
     pub fn columns(self) -> usize {
         match self {
             Edition::WithoutWindows => 10,
-            Edition::Windows => COLUMNS,
+            Edition::WithoutNumber | Edition::Numbered => COLUMNS,
         }
     }
 
@@ -52,14 +58,23 @@ impl Edition {
     pub fn row(self, kept: &[i64]) -> Vec<i64> {
         match self {
             Edition::WithoutWindows => [kept, &FULL].concat(),
-            Edition::Windows => kept.to_vec(),
+            Edition::WithoutNumber | Edition::Numbered => kept.to_vec(),
+        }
+    }
+
+    /// Numbers in the file `mark`: the position, and the job number where jobs have one.
+    pub fn mark(self) -> usize {
+        match self {
+            Edition::WithoutWindows | Edition::WithoutNumber => 1,
+            Edition::Numbered => 2,
         }
     }
 
     /// The edition of this word; otherwise what is wrong with it.
     fn parse(word: &str) -> Result<Self, String> {
         let known = Edition::ALL.into_iter().find(|edition| edition.word() == word);
-        let all = Edition::ALL.map(Edition::word).join(" or ");
+        let [first, second, last] = Edition::ALL.map(Edition::word);
+        let all = format!("{first}, {second} or {last}");
         known.ok_or_else(|| match word.starts_with("tray-job-") {
             true => format!(
                 "a job of edition {word}, and this is for {all}: finish it with the version of tray that made it"
@@ -80,22 +95,26 @@ pub struct Description {
     pub channels: usize,
     pub layers: usize,
     pub samples: usize,
+    /// 0 in the editions that have none.
+    pub number: JobNumber,
     pub digests: [u64; INPUTS.len()],
 }
 
 impl Description {
     /// Of a new job, whose inputs the library has accepted.
-    pub fn new(inputs: &Inputs, digests: [u64; INPUTS.len()]) -> Self {
-        let number = |n: i64| n as usize;
+    pub fn new(inputs: &Inputs, number: JobNumber, digests: [u64; INPUTS.len()]) -> Self {
         let Inputs { width, height, channels, layers, samples, .. } = *inputs;
         let samples = samples.len();
-        let [width, height, channels, layers] = [width, height, channels, layers].map(number);
-        Description { edition: Edition::Windows, width, height, channels, layers, samples, digests }
+        let [width, height, channels, layers] = [width, height, channels, layers].map(|n| n as usize);
+        Description { edition: Edition::Numbered, width, height, channels, layers, samples, number, digests }
     }
 
     pub fn text(&self) -> String {
-        let Description { edition, width, height, channels, layers, samples, digests } = self;
+        let Description { edition, width, height, channels, layers, samples, number, digests } = self;
         let mut text = format!("{} {width} {height} {channels} {layers} {samples}\n", edition.word());
+        if *edition == Edition::Numbered {
+            text += &format!("number {number}\n");
+        }
         for (name, digest) in INPUTS.iter().zip(digests) {
             text += &format!("{name} {digest:016x}\n");
         }
@@ -110,14 +129,18 @@ impl Description {
         let edition = Edition::parse(words.next().unwrap_or(""))?;
         let numbers: Vec<usize> = words.map(str::parse).collect::<Result<_, _>>().unwrap_or_default();
         let hex = |line: &str| u64::from_str_radix(line.split(' ').nth(1)?, 16).ok();
+        let number = match edition {
+            Edition::Numbered => lines.next().and_then(hex),
+            Edition::WithoutWindows | Edition::WithoutNumber => Some(0),
+        };
         let digests: Vec<u64> = lines.take(INPUTS.len()).map_while(hex).collect();
-        match (&numbers[..], digests.try_into()) {
-            (&[width, height, channels, layers, samples], Ok(digests))
+        match (&numbers[..], number.map(JobNumber), digests.try_into()) {
+            (&[width, height, channels, layers, samples], Some(number), Ok(digests))
                 if width.max(height) <= SIDE as usize
                     && [1, 3, 4].contains(&channels)
                     && (1..=LAYERS).contains(&layers) =>
             {
-                let read = Description { edition, width, height, channels, layers, samples, digests };
+                let read = Description { edition, width, height, channels, layers, samples, number, digests };
                 // Whatever else has changed in it is told by its own digest.
                 if read.text() == text {
                     Ok(read)
@@ -138,15 +161,16 @@ mod tests {
 
     /// The numbers of a job with the most layers.
     fn job(edition: Edition) -> Description {
-        let digests = [0, 1, u64::MAX, 3];
-        Description { edition, width: 7, height: 2048, channels: 3, layers: 16, samples: 12, digests }
+        let (number, digests) = (JobNumber(if edition.mark() == 2 { 1 << 60 } else { 0 }), [0, 1, u64::MAX, 3]);
+        Description { edition, width: 7, height: 2048, channels: 3, layers: 16, samples: 12, number, digests }
     }
 
-    /// The edition's number too: its last bit makes one of the two into the other.
+    /// The edition's number too: its last bit makes the first one into the second, and back.
     #[test]
     fn there_and_back_and_each_byte_counts() {
         for edition in Edition::ALL {
             let text = job(edition).text();
+            assert_eq!(text.contains("\nnumber 1000000000000000\ndst "), edition == Edition::Numbered);
             assert_eq!(Description::parse(&text), Ok(job(edition)));
             for n in 0..text.len() {
                 let mut bytes = text.clone().into_bytes();
@@ -159,9 +183,9 @@ mod tests {
 
     #[test]
     fn another_edition_is_told() {
-        for other in ["tray-job-1", "tray-job-4", "tray-job-"] {
-            let said = Description::parse(&job(Edition::Windows).text().replace("tray-job-3", other)).unwrap_err();
-            let wanted = format!("a job of edition {other}, and this is for tray-job-2 or tray-job-3: ");
+        for other in ["tray-job-1", "tray-job-5", "tray-job-"] {
+            let said = Description::parse(&job(Edition::Numbered).text().replace("tray-job-4", other)).unwrap_err();
+            let wanted = format!("a job of edition {other}, and this is for tray-job-2, tray-job-3 or tray-job-4: ");
             assert!(said.starts_with(&wanted), "{said}");
         }
     }
@@ -171,7 +195,19 @@ mod tests {
         let row: Vec<i64> = (0..10).collect();
         assert_eq!(Edition::WithoutWindows.row(&row), [0, 1, 2, 3, 4, 5, 6, 7, 8, 9, 0, 0, 2048, 2048]);
         let row: Vec<i64> = (0..14).collect();
-        assert_eq!(Edition::Windows.row(&row), row);
-        assert_eq!(Edition::ALL.map(Edition::columns), [10, COLUMNS]);
+        assert_eq!(Edition::WithoutNumber.row(&row), row);
+        assert_eq!(Edition::Numbered.row(&row), row);
+        assert_eq!(Edition::ALL.map(Edition::columns), [10, COLUMNS, COLUMNS]);
+    }
+
+    /// No edition is read as another one by its word alone: with a line too many, or one too few.
+    #[test]
+    fn an_edition_by_its_word_alone() {
+        for (from, to) in [(Edition::Numbered, "tray-job-3"), (Edition::WithoutNumber, "tray-job-4")] {
+            let text = job(from).text().replacen(from.word(), to, 1);
+            let body = &text[..text.rfind("job ").unwrap()];
+            let whole = digest(body.as_bytes());
+            assert_eq!(Description::parse(&format!("{body}job {whole:016x}\n")), Err(DAMAGED.into()), "{to}");
+        }
     }
 }

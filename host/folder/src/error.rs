@@ -3,6 +3,7 @@
 use std::fmt;
 use std::io;
 use std::path::{Path, PathBuf};
+use tray::{Fault, JobNumber};
 
 /// The result of this crate's calls.
 pub type Result<T> = std::result::Result<T, Error>;
@@ -18,6 +19,15 @@ pub enum Error {
     Busy(PathBuf),
     /// The library refused the job, or was not called because of the thread's floating-point environment.
     Refused(PathBuf, tray::Error<tray::Refusal>),
+    /// The mark in the folder is another job's, which the library refuses as [`Fault::JobNumber`].
+    AnothersMark {
+        /// The folder.
+        folder: PathBuf,
+        /// The number in the mark.
+        mark: JobNumber,
+        /// The folder's own.
+        job: JobNumber,
+    },
 }
 
 /// No room, no quota, or the device itself: `ENOSPC`, `EDQUOT`, `EIO`.
@@ -41,6 +51,12 @@ impl fmt::Display for Error {
             Error::Wrong(path, what) => write!(f, "{}: {what}", path.display()),
             Error::Busy(path) => write!(f, "{}: another worker has this job", path.display()),
             Error::Refused(path, error) => write!(f, "{}: {error}", path.display()),
+            Error::AnothersMark { folder, mark, job } => {
+                let (folder, fault) = (folder.display(), Fault::JobNumber);
+                write!(f, "{folder}: refused: {} {}: the mark is another job's: ", fault.number(), fault.word())?;
+                write!(f, "it has job number {mark}, and this job's is {job}; ")?;
+                f.write_str("bring its own mark back, or make the job anew")
+            }
         }
     }
 }

@@ -1,10 +1,11 @@
 //! A job folder: `job` (description.rs), the inputs `dst`, `table`, `args`, `samples`, and `names` (a line of text a layer,
 //! for people), what calls write, `work0`, `work1` and `mark`, each list as it stands in memory, low byte first; `lock`, which
-//! the worker holds; and what a worker keeps for the one after it, `checkpoint` and `held` (checkpoint.rs, held.rs).
+//! the worker holds; and what a worker keeps for the one after it, `checkpoint` and `held` (checkpoint.rs, held.rs). The mark is
+//! the position and the job number, which is written when the folder is made and never again.
 
 use crate::beside::{folder_of, is_a_parts_name, is_at, sweep, Part};
 use crate::checkpoint::{place, Checkpoint, Pictures};
-use crate::description::{Description, INPUTS};
+use crate::description::{Description, Edition, INPUTS};
 use crate::digest::digest;
 use crate::error::{At, Error, Result};
 use crate::list::List;
@@ -15,10 +16,10 @@ use std::io::ErrorKind;
 use std::os::unix::fs::MetadataExt;
 use std::path::{Path, PathBuf};
 use std::{thread, time::Duration};
-use tray::{Fault, Inputs, Memory, Refusal, Window, ARGUMENTS, COLUMNS};
+use tray::{Fault, Inputs, JobNumber, Memory, Refusal, Window, ARGUMENTS, COLUMNS};
 
 pub(crate) const WORK: [&str; 2] = ["work0", "work1"];
-pub(crate) const MARK: &str = "mark";
+const MARK: &str = "mark";
 pub(crate) const CHECKPOINT: &str = "checkpoint";
 const JOB: &str = "job";
 const LOCK: &str = "lock";
@@ -66,8 +67,9 @@ impl Folder {
     }
 
     /// Makes a new folder, whole or not at all, with room for all that its workers write: under another name beside it
-    /// first, stored before it gets its own. `names` has a line for each layer. A `create` that is killed leaves at most a
-    /// hidden folder `.tray-..`, which a later one beside it removes.
+    /// first, stored before it gets its own. `names` has a line for each layer. The job number is 64 random bits; where the
+    /// system has none, no folder is made. A `create` that is killed leaves at most a hidden folder `.tray-..`, which a later
+    /// one beside it removes.
     pub fn create(path: &Path, inputs: &Inputs, names: &[String]) -> Result<Self> {
         accepted(inputs).map_err(|error| Error::Refused(path.to_path_buf(), error))?;
         if fs::symlink_metadata(path).is_ok() {
@@ -76,11 +78,13 @@ impl Folder {
         if is_a_parts_name(path) {
             return Error::wrong(path, "a name of jobs that are being made, which others would remove");
         }
+        let number = system::random().map(JobNumber);
+        let number = number.or_else(|error| Error::wrong(path, format!("no random number for the job: {error}")))?;
         let beside = folder_of(path);
         storage::make_folders(beside).at(beside)?;
         sweep(beside, &[&MEMORY[..], &GIVEN, &[NAMES]].concat());
         let part = Part::folder(beside).at(beside)?;
-        fill(part.path(), inputs, names).map_err(|error| renamed(error, part.path(), path))?;
+        fill(part.path(), inputs, number, names).map_err(|error| renamed(error, part.path(), path))?;
         part.becomes(path).at(path)?;
         storage::sync_folder(beside).at(beside)?;
         Folder::open(path)
@@ -116,24 +120,32 @@ impl Folder {
         self.job.layers
     }
 
+    /// The job number, which its calls carry and its mark has. A copy has the same one. A job from before there were numbers
+    /// has 0.
+    pub fn number(&self) -> JobNumber {
+        self.job.number
+    }
+
     /// The pixels of a picture.
     pub fn pixels(&self) -> usize {
         self.job.width * self.job.height
     }
 
-    /// The mark of the finished job.
+    /// The position of the finished job.
     pub fn total(&self) -> u64 {
         tray::total(self.job.width as u64, self.job.height as u64, self.job.layers as u64)
     }
 
-    /// The phase that a mark lies in, and its pixels written so far.
-    pub fn phase(&self, mark: u64) -> (u64, u64) {
-        tray::phase(mark, self.job.width as u64, self.job.height as u64)
+    /// The phase that a position lies in, and its pixels written so far.
+    pub fn phase(&self, position: u64) -> (u64, u64) {
+        tray::phase(position, self.job.width as u64, self.job.height as u64)
     }
 
-    /// How far the job is: the mark, which a worker may be raising, where it can be trusted; elsewhere the checkpoint that the
-    /// pictures bear out. A mark beyond the job's end is refused as the library refuses it.
+    /// How far the job is: the mark's position, which a worker may be raising, where it can be trusted; elsewhere the checkpoint
+    /// that the pictures bear out. A mark of another job is refused in either case, and a position beyond the job's end where it
+    /// would count.
     pub fn position(&self) -> Result<u64> {
+        self.own_mark()?;
         match held::trusted(&self.path, &self.here()?) {
             true => self.mapped_mark(),
             false => Ok(self.checkpoint()?.position),
@@ -145,14 +157,40 @@ impl Folder {
         held::here(&self.path, &MEMORY, &GIVEN)
     }
 
-    /// The mark as its file has it.
+    /// The position as the mark's file has it. One beyond the job's end is refused as the library refuses it.
     pub(crate) fn mapped_mark(&self) -> Result<u64> {
-        let path = self.at(MARK);
-        match fs::read(&path).at(&path)?.try_into().map(u64::from_ne_bytes) {
-            Ok(mark) if mark <= self.total() => Ok(mark),
-            Ok(_) => Err(Error::Refused(self.path.clone(), Refusal { fault: Fault::Mark, layer: 0 }.into())),
-            Err(_) => Error::wrong(&path, "has not 8 bytes"),
+        match self.own_mark()? {
+            position if position <= self.total() => Ok(position),
+            _ => Err(Error::Refused(self.path.clone(), Refusal { fault: Fault::Mark, layer: 0 }.into())),
         }
+    }
+
+    /// The position that the mark's file has, whatever it is, if the mark is this job's. It need not be one that a worker would
+    /// trust: another job's mark was put here by mistake, wherever the folder is now. Its position says nothing, so that the
+    /// number is looked at first, other than in the library's call.
+    fn own_mark(&self) -> Result<u64> {
+        let path = self.at(MARK);
+        let bytes = fs::read(&path).at(&path)?;
+        let wanted = 8 * self.job.edition.mark();
+        if bytes.len() != wanted {
+            return Error::wrong(&path, format!("has {} bytes, not {wanted}", bytes.len()));
+        }
+        let mut numbers = bytes.chunks_exact(8).map(|b| u64::from_le_bytes(b.try_into().expect("eight bytes")));
+        let (position, number) = (numbers.next().unwrap_or(0), numbers.next().unwrap_or(0));
+        self.is_own(JobNumber(number)).map(|()| position)
+    }
+
+    /// Whether a mark with this number is this job's.
+    pub(crate) fn is_own(&self, mark: JobNumber) -> Result<()> {
+        match self.number() {
+            job if job == mark => Ok(()),
+            job => Err(Error::AnothersMark { folder: self.path.clone(), mark, job }),
+        }
+    }
+
+    /// The mark, mapped as the library wants it, in an old folder too.
+    pub(crate) fn mark(&self) -> Result<List<u64>> {
+        List::write_past(&self.at(MARK), self.job.edition.mark(), Edition::Numbered.mark())
     }
 
     /// The checkpoint in the folder, whether its pictures are there or not; without one the beginning.
@@ -313,21 +351,23 @@ fn accepted(inputs: &Inputs) -> std::result::Result<(), tray::Error<tray::Refusa
         _ => 0,
     };
     let (mut work0, mut work1) = (vec![0; words], vec![0; words]);
-    tray::job(inputs, 0, Memory { work0: &mut work0, work1: &mut work1, mark: &mut [0] }).map(drop)
+    let memory = Memory { work0: &mut work0, work1: &mut work1, mark: &mut [0, 0] };
+    tray::job(inputs, JobNumber(0), 0, memory).map(drop)
 }
 
-/// The files of a new job; work buffers and mark begin at 0.
-fn fill(part: &Path, inputs: &Inputs, names: &[String]) -> Result<()> {
+/// The files of a new job; work buffers and position begin at 0. The mark has its number before the folder has its name, so that
+/// the order of the two counts for nothing here.
+fn fill(part: &Path, inputs: &Inputs, number: JobNumber, names: &[String]) -> Result<()> {
     let Inputs { dst, table, args, samples, .. } = *inputs;
     let names = names.join("\n");
     let lists = [bytes(dst), bytes(table), bytes(args), bytes(samples)];
-    let job = Description::new(inputs, lists.map(digest));
+    let job = Description::new(inputs, number, lists.map(digest));
     let write = |name: &str, bytes: &[u8]| storage::write(&part.join(name), bytes).at(&part.join(name));
     for (name, list) in INPUTS.iter().zip(lists) {
         write(name, list)?;
     }
     write(NAMES, names.as_bytes())?;
-    write(MARK, &0u64.to_le_bytes())?;
+    write(MARK, bytes(&[0, number.0]))?;
     write(LOCK, b"")?;
     write(JOB, job.text().as_bytes())?;
     for name in WORK {

@@ -2,7 +2,8 @@
 //! it is copied, nothing but the right picture is called finished. host/README.md says what is not covered.
 //!
 //! A worker ([`Worker`]) maps the work buffers and the mark into its memory, so that a kill loses nothing: the next worker
-//! of the same boot goes on at the mark. A loss of power loses what was not yet stored, in any order; so before a phase
+//! of the same boot goes on at the mark. A folder has a job number of its own ([`Folder::number`]), which each call carries: the
+//! mark of another job is refused. A loss of power loses what was not yet stored, in any order; so before a phase
 //! writes over the picture beneath the one before it, the picture that is whole is stored, and then, in a file of its own,
 //! the position and a digest of the pictures that it rests on: the checkpoint ([`Durable`] says how often). In another
 //! boot, on another mount or in a copy of the folder the mapped mark counts for nothing: the job is taken up at the

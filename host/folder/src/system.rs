@@ -17,6 +17,7 @@ extern "C" {
     fn msync(address: *mut c_void, length: usize, flags: i32) -> i32;
     fn flock(file: i32, operation: i32) -> i32;
     fn posix_fallocate(file: i32, offset: i64, length: i64) -> i32;
+    fn getrandom(bytes: *mut c_void, length: usize, flags: u32) -> isize;
     fn statx(folder: i32, path: *const u8, flags: i32, mask: u32, answer: *mut u64) -> i32;
     fn signal(number: i32, handler: usize) -> usize;
     fn write(file: i32, bytes: *const u8, length: usize) -> isize;
@@ -72,7 +73,7 @@ pub struct Mapping {
 unsafe impl Send for Mapping {}
 
 impl Mapping {
-    /// Maps the first `bytes` bytes, at least one.
+    /// Maps the first `bytes` bytes, at least one. Of the file's last page those past its end may be among them.
     pub fn new(file: &File, bytes: usize, writable: bool) -> io::Result<Self> {
         let protection = if writable { PROT_READ | PROT_WRITE } else { PROT_READ };
         let address = unsafe { mmap(ptr::null_mut(), bytes, protection, MAP_SHARED, file.as_raw_fd(), 0) };
@@ -133,6 +134,23 @@ pub fn allocate(file: &File, bytes: u64) -> io::Result<()> {
             0 => Ok(()),
             error => Err(io::Error::from_raw_os_error(error)),
         },
+    }
+}
+
+/// 64 random bits of the kernel's. It is waited for until it has gathered enough of them after its start, and that a signal may
+/// break off; so few are never given in part.
+pub fn random() -> io::Result<u64> {
+    let mut bits = 0u64;
+    loop {
+        let given = unsafe { getrandom((&mut bits as *mut u64).cast(), size_of::<u64>(), 0) };
+        match usize::try_from(given) {
+            Ok(given) if given == size_of::<u64>() => return Ok(bits),
+            Ok(_) => return Err(io::ErrorKind::UnexpectedEof.into()),
+            Err(_) => match io::Error::last_os_error() {
+                error if error.kind() == io::ErrorKind::Interrupted => (),
+                error => return Err(error),
+            },
+        }
     }
 }
 

@@ -3,11 +3,11 @@
 
 use crate::checkpoint::{place, Checkpoint, Pictures};
 use crate::error::{At, Error, Result};
-use crate::folder::{Folder, Lock, CHECKPOINT, MARK, WORK};
+use crate::folder::{Folder, Lock, CHECKPOINT, WORK};
 use crate::list::List;
 use crate::{held, storage, system};
 use std::fs::{self, OpenOptions};
-use tray::{Inputs, Memory, Progress};
+use tray::{Fault, Inputs, JobNumber, Memory, Progress, Refusal};
 
 /// How much of a job a loss of power takes back.
 #[derive(Clone, Copy, Debug, PartialEq, Eq)]
@@ -47,13 +47,17 @@ pub struct Worker {
 }
 
 impl Worker {
-    /// Takes a job up. Its inputs must be those that it was made with, and the storage must have room for its work buffers.
+    /// Takes a job up. Its mark must be its own and its inputs those that it was made with, and the storage must have room for its
+    /// work buffers.
     pub fn new(folder: &Folder, lock: Lock, durable: Durable) -> Result<Self> {
         // It may have been made anew while this worker waited.
         let folder = Folder::open(folder.path())?;
         if !folder.is_locked_by(&lock) {
             return Err(Error::Busy(folder.path().to_path_buf()));
         }
+        // Before anything is written; in the very memory that the calls are lent.
+        let mark = folder.mark()?;
+        folder.is_own(JobNumber(mark.list()[1]))?;
         let here = folder.here()?;
         let (dst, table, args, samples) = (folder.dst()?, folder.table()?, folder.args()?, folder.samples()?);
         let work = |k: usize| {
@@ -64,7 +68,7 @@ impl Worker {
             system::allocate(&file, 16 * folder.pixels() as u64).at(&path)?;
             Ok(list)
         };
-        let (work, mark) = ([work(0)?, work(1)?], List::write(&folder.at(MARK), 1)?);
+        let work = [work(0)?, work(1)?];
         // A worker that was killed may have left a checkpoint whose name the storage has not yet.
         storage::sync_folder(folder.path()).at(folder.path())?;
         let checkpoint = folder.checkpoint()?;
@@ -75,8 +79,9 @@ impl Worker {
         Ok(worker)
     }
 
-    /// Sees where the job stands. A mark that cannot be trusted is set to the checkpoint before it is called trusted again;
-    /// and the pictures of that checkpoint are stored, which in a copy they may not be.
+    /// Sees where the job stands. The position of a mark that cannot be trusted is set to the checkpoint before the mark is called
+    /// trusted again; and the pictures of that checkpoint are stored, which in a copy they may not be. The job number is never
+    /// written.
     fn take_up(&mut self) -> Result<()> {
         let path = self.folder.path();
         if held::trusted(path, &self.here) && !self.belied()? {
@@ -107,9 +112,14 @@ impl Worker {
         self.taken_up
     }
 
-    /// The job's mark.
+    /// The job's position, as its mark has it.
     pub fn mark(&self) -> u64 {
         self.mark.list()[0]
+    }
+
+    /// The number in its mark.
+    fn number(&self) -> JobNumber {
+        JobNumber(self.mark.list()[1])
     }
 
     /// One call of at most `allowance` stores, within one phase.
@@ -131,8 +141,16 @@ impl Worker {
         };
         let [work0, work1] = &mut self.work;
         let memory = Memory { work0: work0.list_mut(), work1: work1.list_mut(), mark: self.mark.list_mut() };
-        tray::job(&inputs, allowance.min(5 * (pixels - written)), memory)
-            .map_err(|error| Error::Refused(self.folder.path().to_path_buf(), error))
+        let called = tray::job(&inputs, self.folder.number(), allowance.min(5 * (pixels - written)), memory);
+        called.map_err(|error| self.refused(error))
+    }
+
+    /// The library's refusal. Where the mark is another job's, both numbers are told.
+    fn refused(&self, error: tray::Error<Refusal>) -> Error {
+        match (error, self.folder.is_own(self.number())) {
+            (tray::Error::Refused(Refusal { fault: Fault::JobNumber, .. }), Err(anothers)) => anothers,
+            _ => Error::Refused(self.folder.path().to_path_buf(), error),
+        }
     }
 
     /// Before a phase writes: a checkpoint within it, not beyond the mark, stays true while it is written, since the phase
@@ -146,9 +164,10 @@ impl Worker {
         }
     }
 
-    /// Stores the pictures that the mark rests on, and then the mark with their digest; of a folder that is still the one
-    /// that was taken up, with the inputs that it had then.
+    /// Stores the pictures that the position rests on, and then the position with their digest; of a folder that is still the one
+    /// that was taken up, with the inputs that it had then, and of its own mark.
     fn store(&mut self) -> Result<()> {
+        self.folder.is_own(self.number())?;
         if self.folder.here()? != self.here {
             return Error::wrong(self.folder.path(), "replaced, or its inputs changed, while a worker had it");
         }

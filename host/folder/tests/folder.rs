@@ -8,7 +8,7 @@ use std::path::{Path, PathBuf};
 use std::sync::atomic::{AtomicUsize, Ordering};
 use std::thread;
 use std::time::Duration;
-use tray::{Inputs, Layer, Source, Stack, Window};
+use tray::{Inputs, JobNumber, Layer, Source, Stack, Window};
 use tray_folder::{Durable, Error, Folder, TakenUp, Worker};
 
 const WIDTH: usize = 20;
@@ -321,17 +321,122 @@ fn another_file_of_the_same_name() {
     assert!(held.contains(&format!("\nboot {}\n", boot.trim())), "{held}");
 }
 
-/// Pictures and checkpoint of one job are nothing in another.
+/// Pictures and checkpoint of one job are nothing in another, be it of the same inputs.
 #[test]
 fn another_jobs_checkpoint() {
     let room = room("foreign");
-    let (one, other) = (make(&room.join("one")), make_with(&room.join("other"), 3));
+    let one = make(&room.join("one"));
     finish(&one);
-    for name in ["work0", "work1", "mark", "checkpoint"] {
-        fs::copy(one.path().join(name), other.path().join(name)).unwrap();
+    for down in [2, 3] {
+        let other = make_with(&room.join(format!("other{down}")), down);
+        for name in ["work0", "work1", "checkpoint"] {
+            fs::copy(one.path().join(name), other.path().join(name)).unwrap();
+        }
+        assert_eq!(other.position().unwrap(), 0);
+        assert!(!other.is_finished().unwrap());
     }
-    assert_eq!(other.position().unwrap(), 0);
-    assert!(!other.is_finished().unwrap());
+}
+
+/// The files that a worker writes, and those that it keeps besides.
+fn memory(folder: &Folder) -> Vec<Option<Vec<u8>>> {
+    let read = |name: &str| fs::read(folder.path().join(name)).ok();
+    ["work0", "work1", "mark", "checkpoint", "held"].map(read).into()
+}
+
+/// What is said of the folder `job` with the mark of the job `other`.
+fn anothers(job: &Folder, other: &Folder) -> String {
+    format!(
+        "{}: refused: 14 JOB NUMBER: the mark is another job's: it has job number {}, and this job's is {}; \
+        bring its own mark back, or make the job anew",
+        job.path().display(),
+        other.number(),
+        job.number()
+    )
+}
+
+/// The mark of another job of the same dimensions, copied in or moved in, and so trusted or not; at the beginning, within a
+/// phase and at the end. It is refused and nothing is written; with its own mark the job goes on where it was.
+#[test]
+fn another_jobs_mark() {
+    let room = room("mark");
+    let whole = finish(&make(&room.join("whole")));
+    for (n, mark) in MARKS.into_iter().enumerate() {
+        for moved in [false, true] {
+            let name = |what: &str| room.join(format!("{what}{n}{moved}"));
+            let (job, other) = (make(&name("job")), make_with(&name("other"), 3));
+            go_on(&mut worker(&job, Durable::Phase), PIXELS + 99);
+            go_on(&mut worker(&other, Durable::Phase), mark);
+            let (file, own) = (job.path().join("mark"), fs::read(job.path().join("mark")).unwrap());
+            match moved {
+                true => fs::rename(other.path().join("mark"), &file).unwrap(),
+                false => drop(fs::copy(other.path().join("mark"), &file).unwrap()),
+            }
+            let before = memory(&job);
+            let said = anothers(&job, &other);
+            assert_eq!(says(job.position()), said);
+            assert_eq!(says(job.finished()), said);
+            let refused = Worker::new(&job, job.lock(false).unwrap(), Durable::Phase).map(drop).unwrap_err();
+            assert!(matches!(&refused, Error::AnothersMark { mark, job: own, .. }
+                if (*mark, *own) == (other.number(), job.number())));
+            assert_eq!(refused.to_string(), said);
+            assert_eq!(memory(&job), before, "something was written, with mark {mark}");
+            fs::write(&file, own).unwrap();
+            assert_eq!(job.position().unwrap(), if moved { PIXELS } else { PIXELS + 99 });
+            assert_eq!(finish(&job), whole, "mark {mark}");
+        }
+    }
+}
+
+/// A mark with another number that is written under a worker: the library's own call refuses it, and no checkpoint is made of it,
+/// neither before the next phase nor at the worker's end.
+#[test]
+fn another_number_under_a_worker() {
+    let room = room("number_under");
+    let whole = finish(&make(&room.join("whole")));
+    for (position, allowance) in [(PIXELS + 5, 0), (PIXELS + 5, 50), (2 * PIXELS, u64::MAX), (TOTAL, 5)] {
+        let job = make(&room.join(format!("job{position}{allowance}")));
+        let other = JobNumber(job.number().0 ^ 1 << 40);
+        let mark = |number: JobNumber, position: u64| {
+            fs::write(job.path().join("mark"), [position.to_le_bytes(), number.0.to_le_bytes()].concat()).unwrap();
+        };
+        let mut first = worker(&job, Durable::Phase);
+        go_on(&mut first, position);
+        mark(other, position);
+        let before = memory(&job);
+        let said = says(first.call(allowance));
+        assert!(said.contains(&format!("has job number {other}, and this job's is {}; ", job.number())), "{said}");
+        assert_eq!(says(first.stop()), said);
+        assert_eq!(memory(&job), before, "something was written at {position}");
+        mark(job.number(), position);
+        assert_eq!(job.position().unwrap(), position);
+        assert_eq!(finish(&job), whole, "{position}");
+    }
+}
+
+/// Each job has a number of its own, a copy the same; it stands in the description and in the mark, and no worker writes it.
+#[test]
+fn job_numbers() {
+    let room = room("numbers");
+    let jobs: Vec<Folder> = (0..48).map(|n| make(&room.join(n.to_string()))).collect();
+    let mut numbers: Vec<u64> = jobs.iter().map(|job| job.number().0).collect();
+    numbers.sort_unstable();
+    numbers.dedup();
+    assert_eq!(numbers.len(), jobs.len(), "two jobs have one number");
+    // Each bit is 0 in some and 1 in others; by chance it is not so once in 10^12 runs.
+    assert_eq!(numbers.iter().fold((0, 0), |(some, none), n| (some | n, none | !n)), (u64::MAX, u64::MAX));
+    let (job, copied) = (&jobs[0], copy(jobs[0].path(), &room.join("copy")));
+    assert_eq!(copied.number(), job.number());
+    let text = fs::read_to_string(job.path().join("job")).unwrap();
+    assert_eq!(text.lines().nth(1), Some(&format!("number {:016x}", job.number().0)[..]));
+    let mark = |position: u64| [position.to_le_bytes(), job.number().0.to_le_bytes()].concat();
+    assert_eq!(fs::read(job.path().join("mark")).unwrap(), mark(0));
+    go_on(&mut worker(job, Durable::Phase), 2 * PIXELS + 7);
+    assert_eq!(fs::read(job.path().join("mark")).unwrap(), mark(2 * PIXELS + 7));
+    another_boot(job);
+    assert_eq!(worker(job, Durable::Phase).mark(), 2 * PIXELS);
+    assert_eq!(fs::read(job.path().join("mark")).unwrap(), mark(2 * PIXELS));
+    finish(job);
+    assert_eq!(fs::read(job.path().join("mark")).unwrap(), mark(TOTAL));
 }
 
 #[test]
@@ -399,7 +504,7 @@ fn a_damaged_description() {
         assert!(said.starts_with(&format!("{}: damaged: ", path.join("job").display())), "{said}");
     }
     fs::write(path.join("job"), b"\xff\xfe").unwrap();
-    assert!(says(Folder::open(&path)).ends_with(": not a job of edition tray-job-2 or tray-job-3"));
+    assert!(says(Folder::open(&path)).ends_with(": not a job of edition tray-job-2, tray-job-3 or tray-job-4"));
     fs::remove_file(path.join("job")).unwrap();
     fs::create_dir(path.join("job")).unwrap();
     assert!(says(Folder::open(&path)).ends_with("job: a job's file is a regular one with no other name, and no link"));
@@ -412,11 +517,26 @@ fn a_mark_beyond_the_end() {
     let room = room("beyond");
     let folder = make(&room.join("job"));
     go_on(&mut worker(&folder, Durable::Phase), 300);
-    fs::write(folder.path().join("mark"), (TOTAL + 1).to_le_bytes()).unwrap();
+    let taken_up = || Worker::new(&folder, folder.lock(false).unwrap(), Durable::Phase);
+    let beyond = [(TOTAL + 1).to_le_bytes(), folder.number().0.to_le_bytes()].concat();
+    fs::write(folder.path().join("mark"), &beyond).unwrap();
     assert!(says(folder.position()).contains("refused: 10 MARK"));
-    assert!(says(Worker::new(&folder, folder.lock(false).unwrap(), Durable::Phase)).contains("refused: 10 MARK"));
-    fs::write(folder.path().join("mark"), [0; 7]).unwrap();
-    assert!(says(folder.position()).ends_with("mark: has not 8 bytes"));
+    assert!(says(taken_up()).contains("refused: 10 MARK"));
+    for length in [0, 7, 8, 15, 17] {
+        let bytes: Vec<u8> = beyond.iter().copied().cycle().take(length).collect();
+        fs::write(folder.path().join("mark"), bytes).unwrap();
+        let said = format!("mark: has {length} bytes, not 16");
+        assert!(says(folder.position()).ends_with(&said) && says(taken_up()).ends_with(&said), "{said}");
+    }
+    // Another job's is told as such wherever it stands.
+    fs::write(folder.path().join("mark"), [(TOTAL + 1).to_le_bytes(), [0; 8]].concat()).unwrap();
+    assert!(says(folder.position()).contains("refused: 14 JOB NUMBER"));
+    assert!(says(taken_up()).contains("refused: 14 JOB NUMBER"));
+    // In a copy the position counts for nothing, and the number does.
+    let copied = copy(folder.path(), &room.join("copy"));
+    assert!(says(copied.position()).contains("refused: 14 JOB NUMBER"));
+    fs::write(copied.path().join("mark"), &beyond).unwrap();
+    assert_eq!(copied.position().unwrap(), PIXELS);
 }
 
 /// Workers who try and people who ask, all at once: somebody has it soon.
@@ -486,66 +606,130 @@ fn a_folder_that_exists_and_what_killed_makers_leave() {
     assert!(finish(&folder).is_empty());
 }
 
-/// What the crate of edition 2 wrote of `make`'s job when layers had no windows: its description, and the checkpoints of workers
-/// that stopped within the first layer and at the end.
-const OLD_JOB: &str = "\
+/// A job as the crate of an older edition wrote it: its description, and the checkpoints of workers that stopped within the first
+/// layer and at the end.
+struct Old {
+    windows: [Window; LAYERS],
+    columns: usize,
+    job: &'static str,
+    checkpoints: [(u64, &'static str); 2],
+}
+
+/// When layers had no windows.
+const EDITION_2: Old = Old {
+    windows: [Window::FULL; LAYERS],
+    columns: 10,
+    job: "\
 tray-job-2 20 13 4 3 1040
 dst 72fb0517f1c1b2c2
 table 4ddf22db5bf1bc13
 args 7869c3727bf8a6ec
 samples 72fb0517f1c1b2c2
 job a4497f6e64885f4f
-";
-const OLD_CHECKPOINTS: [(u64, &str); 2] =
-    [(PIXELS + 99, "tray-checkpoint-1 359 df721f0d14d84026\n"), (TOTAL, "tray-checkpoint-1 1040 d9fc1feaf2d8f9bc\n")];
+",
+    checkpoints: [
+        (PIXELS + 99, "tray-checkpoint-1 359 df721f0d14d84026\n"),
+        (TOTAL, "tray-checkpoint-1 1040 d9fc1feaf2d8f9bc\n"),
+    ],
+};
 
-/// The same job as a folder of edition 2, stopped at this mark. The pictures are this library's, and the digests that they must
-/// have are of the pictures of the library without windows.
-fn old(path: &Path, mark: u64) -> Folder {
-    let folder = make_within(path, 2, [Window::FULL; LAYERS]);
+/// When jobs had no numbers.
+const EDITION_3: Old = Old {
+    windows: WINDOWS,
+    columns: 14,
+    job: "\
+tray-job-3 20 13 4 3 1040
+dst 72fb0517f1c1b2c2
+table 3f9c2c902115726d
+args 7869c3727bf8a6ec
+samples 72fb0517f1c1b2c2
+job 73e42c33062ab51e
+",
+    checkpoints: [
+        (PIXELS + 99, "tray-checkpoint-1 359 143c4b5fe1f201c2\n"),
+        (TOTAL, "tray-checkpoint-1 1040 9deb05da7332ce8f\n"),
+    ],
+};
+
+/// The same job as a folder of an older edition, stopped at this position. The pictures are this library's, and the digests that
+/// they must have are of the pictures of the library of that time.
+fn old(path: &Path, edition: &Old, position: u64) -> Folder {
+    let folder = make_within(path, 2, edition.windows);
     let mut first = worker(&folder, Durable::Phase);
-    go_on(&mut first, mark);
+    go_on(&mut first, position);
     first.stop().unwrap();
     let rows = folder.table().unwrap();
-    let ten = rows.chunks(tray::COLUMNS).flat_map(|row| &row[..10]).flat_map(|number| number.to_le_bytes());
-    fs::write(path.join("table"), ten.collect::<Vec<u8>>()).unwrap();
-    fs::write(path.join("job"), OLD_JOB).unwrap();
-    if let Some((_, checkpoint)) = OLD_CHECKPOINTS.iter().find(|(at, _)| *at == mark) {
+    let kept = rows.chunks(tray::COLUMNS).flat_map(|row| &row[..edition.columns]);
+    fs::write(path.join("table"), kept.flat_map(|number| number.to_le_bytes()).collect::<Vec<u8>>()).unwrap();
+    fs::write(path.join("mark"), position.to_le_bytes()).unwrap();
+    fs::write(path.join("job"), edition.job).unwrap();
+    if let Some((_, checkpoint)) = edition.checkpoints.iter().find(|(at, _)| *at == position) {
         fs::write(path.join("checkpoint"), checkpoint).unwrap();
     }
     fs::remove_file(path.join("held")).unwrap();
     Folder::open(path).unwrap()
 }
 
-/// A job from before there were windows is taken over at its mark, with full windows, and stays of its edition.
+/// A job of an older edition is taken over at its position, with the number 0 and, if it had no windows, with full ones. It stays of
+/// its edition: its inputs are as they were, and its mark has eight bytes all the time.
 #[test]
-fn a_job_from_before_windows() {
-    let room = room("edition2");
-    let new = make_within(&room.join("new"), 2, [Window::FULL; LAYERS]);
-    let whole = finish(&new);
-    assert_ne!(finish(&make(&room.join("cut"))), whole, "no window cuts");
-    for mark in [0, PIXELS + 99, TOTAL] {
-        let folder = old(&room.join(format!("job{mark}")), mark);
-        let given = |name: &str| fs::read(folder.path().join(name)).unwrap();
-        let before = ["job", "table", "dst", "args", "samples", "names"].map(given);
-        assert_eq!((folder.position().unwrap(), folder.is_finished().unwrap()), (mark, mark == TOTAL));
-        assert_eq!(folder.table().unwrap(), new.table().unwrap());
-        assert_eq!(folder.windows().unwrap(), [Window::FULL; LAYERS]);
-        // A worker that is gone, another boot, one to the end.
-        go_on(&mut worker(&folder, Durable::Phase), 2 * PIXELS + 7);
-        another_boot(&folder);
-        assert_eq!(finish(&folder), whole, "mark {mark}");
-        assert_eq!(["job", "table", "dst", "args", "samples", "names"].map(given), before, "mark {mark}");
-        // The end is stored as the older crate stores it, so that it can read it.
-        assert_eq!(String::from_utf8(given("checkpoint")).unwrap(), OLD_CHECKPOINTS[1].1);
+fn jobs_of_older_editions() {
+    let room = room("editions");
+    for (n, edition) in [EDITION_2, EDITION_3].iter().enumerate() {
+        let new = make_within(&room.join(format!("new{n}")), 2, edition.windows);
+        let whole = finish(&new);
+        for position in [0, PIXELS + 99, TOTAL] {
+            let folder = old(&room.join(format!("job{n}{position}")), edition, position);
+            let given = |name: &str| fs::read(folder.path().join(name)).unwrap();
+            let inputs = || ["job", "table", "dst", "args", "samples", "names", "lock"].map(given);
+            let before = inputs();
+            let mark = |wanted: u64| assert_eq!(given("mark"), wanted.to_le_bytes());
+            assert_eq!((folder.position().unwrap(), folder.is_finished().unwrap()), (position, position == TOTAL));
+            assert_eq!((folder.number(), folder.windows().unwrap()), (JobNumber(0), edition.windows.to_vec()));
+            assert_eq!(folder.table().unwrap(), new.table().unwrap());
+            // A worker that is gone, another boot, one to the end.
+            let mut first = worker(&folder, Durable::Phase);
+            mark(position);
+            go_on(&mut first, 2 * PIXELS + 7);
+            let reached = (position + 2 * PIXELS + 7).min(TOTAL);
+            mark(reached);
+            drop(first);
+            assert_eq!(folder.position().unwrap(), reached);
+            another_boot(&folder);
+            assert_eq!(finish(&folder), whole, "position {position}");
+            mark(TOTAL);
+            assert_eq!(inputs(), before, "position {position}");
+            // The end is stored as the older crate stores it, so that it can read it.
+            assert_eq!(String::from_utf8(given("checkpoint")).unwrap(), edition.checkpoints[1].1);
+        }
     }
+    assert_ne!(finish(&make(&room.join("cut"))), finish(&make_within(&room.join("full"), 2, [Window::FULL; LAYERS])));
+}
+
+/// A mark of a newer folder is refused in an old one by its length, and the other way round.
+#[test]
+fn marks_of_another_edition() {
+    let room = room("marks");
+    let (new, old) = (make(&room.join("new")), old(&room.join("old"), &EDITION_3, PIXELS + 99));
+    let (long, short) = (new.path().join("mark"), old.path().join("mark"));
+    let (sixteen, eight) = (fs::read(&long).unwrap(), fs::read(&short).unwrap());
+    fs::write(&long, &eight).unwrap();
+    fs::write(&short, &sixteen).unwrap();
+    for (folder, path, what) in [(&new, &long, "has 8 bytes, not 16"), (&old, &short, "has 16 bytes, not 8")] {
+        let said = format!("{}: {what}", path.display());
+        assert_eq!(says(folder.position()), said);
+        assert_eq!(says(Worker::new(folder, folder.lock(false).unwrap(), Durable::Phase)), said);
+    }
+    fs::write(&short, &eight).unwrap();
+    assert_eq!(old.position().unwrap(), PIXELS + 99);
 }
 
 /// A table that has not the length of its folder's edition is refused, and so is one that has changed.
 #[test]
 fn tables_of_another_edition() {
     let room = room("tables");
-    let (new, old) = (make_within(&room.join("new"), 2, [Window::FULL; LAYERS]), old(&room.join("old"), 0));
+    let new = make_within(&room.join("new"), 2, [Window::FULL; LAYERS]);
+    let old = old(&room.join("old"), &EDITION_2, 0);
     let (long, short) = (new.path().join("table"), old.path().join("table"));
     let (fourteen, ten) = (fs::read(&long).unwrap(), fs::read(&short).unwrap());
     fs::write(&long, &ten).unwrap();
@@ -559,8 +743,10 @@ fn tables_of_another_edition() {
     fs::write(&short, &ten).unwrap();
     change_byte(&short, 100);
     assert!(says(old.table()).ends_with("changed since the job was made; a job's inputs stay the same"));
-    // The edition's number alone makes no folder one of the other edition.
+    // The edition's number alone makes no folder one of another edition.
     let path = old.path().join("job");
-    fs::write(&path, OLD_JOB.replacen("tray-job-2", "tray-job-3", 1)).unwrap();
-    assert!(says(Folder::open(old.path())).starts_with(&format!("{}: damaged: ", path.display())));
+    for other in ["tray-job-3", "tray-job-4"] {
+        fs::write(&path, EDITION_2.job.replacen("tray-job-2", other, 1)).unwrap();
+        assert!(says(Folder::open(old.path())).starts_with(&format!("{}: damaged: ", path.display())));
+    }
 }

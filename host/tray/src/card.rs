@@ -2,7 +2,7 @@
 //! the same in it.
 
 use crate::fault::{CardFault, Error, Fault, NoCard, Refusal};
-use crate::job::job;
+use crate::job::{job, JobNumber};
 use crate::layer::{Inputs, Layer, Stack, ARGUMENTS, COLUMNS, LAYERS, SIDE};
 use crate::memory::Memory;
 use crate::operator::Operator;
@@ -123,9 +123,9 @@ impl Card {
             most = most.max(samples_of(row[6], row[7], row[8]));
         }
         let (dst, samples) = (vec![0; samples_of(self.width, self.height, self.channels)], vec![0; most]);
-        let memory = Memory { work0: &mut [], work1: &mut [], mark: &mut [0] };
-        match job(&card.inputs(&dst, &samples), 0, memory) {
-            // Work buffers are looked at last.
+        let memory = Memory { work0: &mut [], work1: &mut [], mark: &mut [0, 0] };
+        match job(&card.inputs(&dst, &samples), JobNumber(0), 0, memory) {
+            // What a job's calls write is looked at last.
             Err(Error::Refused(Refusal { fault: Fault::Work, .. })) => Ok(()),
             answer => answer.map(drop),
         }

@@ -25,7 +25,7 @@ pub enum Fault {
     Arguments = 8,
     /// A work buffer, or the output of a single composition, of another length.
     Work = 9,
-    /// The mark is not one number, or lies beyond the job's end.
+    /// The mark is not two numbers, or its position lies beyond the job's end.
     Mark = 10,
     /// Narrowing: the wanted channels, the input's length or the output's length.
     Narrow = 11,
@@ -33,11 +33,13 @@ pub enum Fault {
     Card = 12,
     /// A number of a layer's window that is not 0 to 2048.
     Window = 13,
+    /// The mark's second number is not the call's job number.
+    JobNumber = 14,
 }
 
 impl Fault {
     /// All faults, in the order of their numbers.
-    pub const ALL: [Fault; 13] = [
+    pub const ALL: [Fault; 14] = [
         Fault::Stack,
         Fault::Tray,
         Fault::Operator,
@@ -51,9 +53,10 @@ impl Fault {
         Fault::Narrow,
         Fault::Card,
         Fault::Window,
+        Fault::JobNumber,
     ];
 
-    /// The library's number, 1 to 13.
+    /// The library's number, 1 to 14.
     pub fn number(self) -> u64 {
         self as u64
     }
@@ -74,6 +77,7 @@ impl Fault {
             Fault::Narrow => "NARROW",
             Fault::Card => "CARD",
             Fault::Window => "WINDOW",
+            Fault::JobNumber => "JOB NUMBER",
         }
     }
 
@@ -89,10 +93,11 @@ impl Fault {
             Fault::Source => "the source's start, sides or channels, or it ends beyond the samples",
             Fault::Arguments => "a layer has 0 to 4 arguments",
             Fault::Work => "a work buffer has 4 x width x height samples",
-            Fault::Mark => "the mark is one number, at most (layers + 1) x width x height",
+            Fault::Mark => "the mark is two numbers, its position at most (layers + 1) x width x height",
             Fault::Narrow => "1, 3 or 4 channels from whole pixels of four, into an output of that length",
             Fault::Card => "a line out of form, or a layer too many",
             Fault::Window => "a window's left, top, width and height are 0 to 2048",
+            Fault::JobNumber => "the mark's job number is not the call's",
         }
     }
 
@@ -105,7 +110,7 @@ impl Fault {
     pub(crate) fn check(number: u64) -> Result<(), Fault> {
         match number {
             0 => Ok(()),
-            n => Err(*Fault::ALL.get(n as usize - 1).expect("the library answers 0 to 13")),
+            n => Err(*Fault::ALL.get(n as usize - 1).expect("the library answers 0 to 14")),
         }
     }
 }

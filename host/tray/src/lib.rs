@@ -22,9 +22,10 @@
 //! # Ok::<(), Box<dyn std::error::Error>>(())
 //! ```
 //!
-//! A job ([`job`]) lives in two work buffers and a mark. A call may be cut at any moment, by SIGKILL for instance: the
-//! next call with the same inputs and the same memory takes the job up at its mark. Its caller sees to two things: the
-//! stopped worker is gone before the next call starts, and nothing else writes the job's memory until it is finished.
+//! A job ([`job`]) lives in two work buffers and a mark, which has the position and the job's number ([`JobNumber`], [`begin`]). A
+//! call may be cut at any moment, by SIGKILL for instance: the next call with the same inputs, the same number and the same
+//! memory takes the job up at its position, and a call with a number that differs is refused. Its caller sees to two things:
+//! the stopped worker is gone before the next call starts, and nothing else writes the job's memory until it is finished.
 //! examples/job.rs is a host with such a job.
 //!
 //! A layer writes within its window ([`Window`]), and a pixel off it keeps its bits. A card ([`Card`]) is a job as text, which
@@ -49,7 +50,7 @@ pub use card::Card;
 pub use environment::{environment, Environment};
 pub use fault::{CardFault, Error, Fault, NoCard, Refusal};
 pub use gravity::{Gravity, UnknownGravity};
-pub use job::{job, phase, total, Progress};
+pub use job::{begin, job, phase, total, JobNumber, Progress};
 pub use layer::{Flags, Inputs, Layer, Source, Stack, ARGUMENTS, COLUMNS, LAYERS, OFFSET, SIDE};
 pub use memory::Memory;
 pub use operator::{from_name, Argument, ArgumentDefault, Operator};

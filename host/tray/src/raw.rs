@@ -1,11 +1,11 @@
-//! The C interface (include/tray.h), call for call, over borrowed lists and with the library's own numbers as answers; and
-//! samples seen as words and words as samples. All unsafe code of the crate is here: each call hands the pointers and
-//! lengths of borrowed lists to the library, which reads and writes only these, and keeps none of them.
+//! The C interface (include/tray.h), call for call, over borrowed lists and with the library's own numbers as answers; the two
+//! stores that begin a mark; and samples seen as words and words as samples. All unsafe code of the crate is here: each call
+//! hands the pointers and lengths of borrowed lists to the library, which reads and writes only these, and keeps none of them.
 
 use crate::layer::Inputs;
 use crate::memory::Memory;
 use std::mem::{align_of, size_of};
-use std::slice;
+use std::{ptr, slice};
 
 extern "C" {
     fn tray_from_name(name: *const u8, name_length: usize, operator: *mut u64) -> u64;
@@ -39,6 +39,7 @@ extern "C" {
         args_length: usize,
         samples: *const u32,
         samples_length: usize,
+        job_number: u64,
         allowance: u64,
         work0: *mut u32,
         work0_length: usize,
@@ -110,6 +111,7 @@ pub fn narrow_bytes(wanted: i64, input: &[u32], out: &mut [u8]) -> u64 {
 /// `tray_job`: the answer is the fault's number; the other three are written as include/tray.h says.
 pub fn job(
     inputs: &Inputs,
+    number: u64,
     allowance: u64,
     memory: Memory,
     layer: &mut u64,
@@ -120,12 +122,22 @@ pub fn job(
     unsafe {
         with_inputs!(
             tray_job, inputs, layers;
-            allowance,
+            number, allowance,
             work0.as_mut_ptr(), work0.len(),
             work1.as_mut_ptr(), work1.len(),
             mark.as_mut_ptr(), mark.len(),
             layer, stores, finished
         )
+    }
+}
+
+/// The two stores that begin a mark, the position before the number. A compiler may exchange plain stores, or make one of them;
+/// volatile ones it leaves as they stand, so that a process that is killed between them has made the first and not the second.
+pub(crate) fn begin(mark: &mut [u64; 2], number: u64) {
+    let [position, job_number] = mark;
+    unsafe {
+        ptr::write_volatile(position, 0);
+        ptr::write_volatile(job_number, number);
     }
 }
 

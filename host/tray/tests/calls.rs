@@ -1,8 +1,9 @@
-//! The crate on the library that it links: document 01's trial values, each fault, windows, and a job cut at every store.
+//! The crate on the library that it links: document 01's trial values, each fault, windows, a job cut at every store, and the
+//! mark of another job.
 
-use tray::{compose, floats, floats_mut, from_name, job, narrow, narrow_bytes, phase, total, words, words_mut};
-use tray::{Error, Fault, Flags, Gravity, Inputs, Layer, Memory, Operator, Progress, Refusal, Source, Stack, Window};
-use tray::{COLUMNS, SIDE};
+use tray::{begin, compose, floats, floats_mut, from_name, job, narrow, narrow_bytes, phase, total, words, words_mut};
+use tray::{Error, Fault, Flags, Gravity, Inputs, JobNumber, Layer, Memory, Operator, Progress, Refusal};
+use tray::{Source, Stack, Window, COLUMNS, SIDE};
 
 /// A source of `width` × 1 pixels of four channels at the front of the samples.
 fn line(width: i64) -> Source {
@@ -149,9 +150,13 @@ struct Job {
     dst: Vec<u32>,
     layers: Vec<Layer>,
     samples: Vec<u32>,
+    number: JobNumber,
     work: [Vec<u32>; 2],
     mark: Vec<u64>,
 }
+
+/// The number of a job that is not said to have another one.
+const NUMBER: u64 = 0x0123_4567_89ab_cdef;
 
 impl Job {
     fn new(layers: usize) -> Self {
@@ -170,7 +175,8 @@ impl Job {
             layers: (0..layers).map(layer).collect(),
             samples: words(&[0.9, 0.8, 0.7, 0.6, 0.25, 0.5, 0.75, 1.0]).to_vec(),
             work: [vec![1; 8], vec![2; 8]],
-            mark: vec![0],
+            number: JobNumber(NUMBER),
+            mark: vec![0, NUMBER],
         }
     }
 
@@ -178,13 +184,15 @@ impl Job {
         let stack = Stack::new(&self.layers);
         let inputs = inputs(self.width, &self.dst, &stack, &self.samples);
         let [work0, work1] = &mut self.work;
-        job(&inputs, allowance, Memory { work0, work1, mark: &mut self.mark })
+        job(&inputs, self.number, allowance, Memory { work0, work1, mark: &mut self.mark })
     }
 
-    /// A call that must be refused, and write nothing.
+    /// Calls that must be refused, and write nothing, whatever their allowance.
     fn refused(mut self, fault: Fault, layer: u64) {
         let before = (self.work.clone(), self.mark.clone());
-        assert_eq!(self.call(100), Err(Error::Refused(Refusal { fault, layer })));
+        for allowance in [0, 100, u64::MAX] {
+            assert_eq!(self.call(allowance), Err(Error::Refused(Refusal { fault, layer })));
+        }
         assert_eq!((self.work, self.mark), before, "a refused call wrote");
     }
 }
@@ -218,7 +226,7 @@ fn cut_anywhere_and_taken_up() {
     for cut in 0..=80 {
         let mut job = Job::new(7);
         assert_eq!(job.call(cut).unwrap().stores, cut);
-        assert_eq!(job.mark[0], cut / 5);
+        assert_eq!(job.mark, [cut / 5, NUMBER]);
         job.call(u64::MAX).unwrap();
         assert_eq!((&job.work, &job.mark), (&whole.work, &whole.mark), "cut after {cut} stores");
     }
@@ -239,8 +247,13 @@ fn every_fault() {
     with(|job| job.layers[1].source.first = 1).refused(Fault::Source, 1);
     with(|job| job.layers[0].arguments = vec![0.0; 5]).refused(Fault::Arguments, 0);
     with(|job| job.work[1] = vec![0; 7]).refused(Fault::Work, 0);
-    with(|job| job.mark = vec![7]).refused(Fault::Mark, 0);
-    with(|job| job.mark = vec![]).refused(Fault::Mark, 0);
+    with(|job| job.mark = vec![7, NUMBER]).refused(Fault::Mark, 0);
+    with(|job| job.mark[1] ^= 1).refused(Fault::JobNumber, 0);
+    for numbers in [&[][..], &[0], &[NUMBER], &[0, NUMBER, 0]] {
+        let mut job = Job::new(2);
+        job.mark = numbers.to_vec();
+        job.refused(Fault::Mark, 0);
+    }
     // Operators and flags have no wrong value in this crate's types; the table itself has.
     let stack = Stack::new(&[Layer::new(Operator::Over, line(1))]);
     let pixel = [0; 4];
@@ -281,7 +294,76 @@ fn a_windows_numbers() {
     with(|job| job.layers[0].arguments = vec![0.0; 5]).refused(Fault::Arguments, 0);
     with(|job| job.layers[1].operator = Operator::Interpolate).refused(Fault::Window, 0);
     with(|job| job.work[0] = vec![]).refused(Fault::Window, 0);
-    with(|job| job.mark = vec![7]).refused(Fault::Window, 0);
+    with(|job| job.mark = vec![7, NUMBER]).refused(Fault::Window, 0);
+    with(|job| job.mark[1] = 0).refused(Fault::Window, 0);
+}
+
+/// Numbers that differ in one bit or in all, with 0 among them, are refused at each position, unbegun and finished too, and
+/// equal ones are not. The fault comes after all others.
+#[test]
+fn a_mark_with_another_number() {
+    let at = |position: u64, mark: u64, call: u64| {
+        let mut job = Job::new(2);
+        (job.number, job.mark) = (JobNumber(call), vec![position, mark]);
+        job
+    };
+    for number in [0, 1, NUMBER, u64::MAX] {
+        for position in 0..=6 {
+            let others = (0..64).map(|bit| number ^ 1 << bit).chain([!number, 0, position]);
+            for other in others.filter(|other| *other != number) {
+                at(position, other, number).refused(Fault::JobNumber, 0);
+            }
+            let mut job = at(position, number, number);
+            let stores = 5 * (6 - position);
+            assert_eq!(job.call(u64::MAX), Ok(Progress { stores, finished: true }));
+            assert_eq!(job.mark, [6, number]);
+        }
+    }
+    at(7, 1, 2).refused(Fault::Mark, 0);
+    let with = |change: fn(&mut Job)| {
+        let mut job = at(0, 1, 2);
+        change(&mut job);
+        job
+    };
+    with(|job| job.work[1] = vec![0; 7]).refused(Fault::Work, 0);
+    with(|job| job.mark.push(2)).refused(Fault::Mark, 0);
+    with(|job| job.layers[1].operator = Operator::Blur).refused(Fault::Curve, 1);
+    // Without pixels.
+    let empty = |job: &mut Job| (job.width, job.dst, job.work) = (0, vec![], [vec![], vec![]]);
+    let mut job = at(0, 1, 2);
+    empty(&mut job);
+    job.refused(Fault::JobNumber, 0);
+    let mut job = at(0, 0, 0);
+    empty(&mut job);
+    assert_eq!(job.call(0), Ok(Progress { stores: 0, finished: true }));
+}
+
+/// A job of the same dimensions is given the memory of an earlier one. Its calls refuse the mark; when it has begun, the picture is
+/// its own, whatever the work buffers hold.
+#[test]
+fn memory_of_an_earlier_job() {
+    let later = || {
+        let mut job = Job::new(3);
+        job.number = JobNumber(NUMBER + 1);
+        job.dst.reverse();
+        job
+    };
+    let mut whole = later();
+    whole.mark[1] = NUMBER + 1;
+    whole.call(u64::MAX).unwrap();
+    for stores in (0..=40).step_by(5) {
+        let mut earlier = Job::new(3);
+        earlier.call(stores).unwrap();
+        let mut job = later();
+        (job.work, job.mark) = (earlier.work, earlier.mark);
+        assert_eq!(job.call(u64::MAX), Err(Error::Refused(Refusal { fault: Fault::JobNumber, layer: 0 })));
+        let mut mark = [job.mark[0], job.mark[1]];
+        begin(&mut mark, job.number);
+        assert_eq!(mark, [0, NUMBER + 1]);
+        job.mark = mark.to_vec();
+        assert_eq!(job.call(u64::MAX), Ok(Progress { stores: 40, finished: true }));
+        assert_eq!((&job.work, &job.mark), (&whole.work, &whole.mark), "after {stores} stores of the earlier job");
+    }
 }
 
 /// A row of another length, such as one from before there were windows, is refused and not read otherwise.
@@ -296,10 +378,10 @@ fn rows_of_another_length() {
         let one = Inputs { table: &table[..columns], args, ..called };
         assert_eq!(compose(&one, &mut out), Err(Error::Refused(Fault::Stack)), "{columns} numbers");
         let (mut work0, mut work1) = ([9; 4], [9; 4]);
-        let memory = Memory { work0: &mut work0, work1: &mut work1, mark: &mut [0] };
+        let memory = Memory { work0: &mut work0, work1: &mut work1, mark: &mut [0, NUMBER] };
         let two = Inputs { table: &vec![0; 2 * columns], ..called };
         let refused = Error::Refused(Refusal { fault: Fault::Stack, layer: 0 });
-        assert_eq!(job(&two, u64::MAX, memory), Err(refused), "{columns} numbers a layer");
+        assert_eq!(job(&two, JobNumber(NUMBER), u64::MAX, memory), Err(refused), "{columns} numbers a layer");
         assert_eq!((out, work0, work1), ([9; 4], [9; 4], [9; 4]), "a refused call wrote");
     }
 }
@@ -338,13 +420,16 @@ fn samples_as_words() {
 #[test]
 fn faults_by_number_and_word() {
     let numbers: Vec<u64> = Fault::ALL.iter().map(|fault| fault.number()).collect();
-    assert_eq!(numbers, (1..=13).collect::<Vec<u64>>());
+    assert_eq!(numbers, (1..=14).collect::<Vec<u64>>());
     let refusal = Refusal { fault: Fault::Operator, layer: 2 };
     assert_eq!(refusal.to_string(), "refused: 3 OPERATOR in layer 2: no such operator");
     assert!(Fault::Tray.to_string().starts_with("refused: 2 TRAY: "));
     let refusal = Refusal { fault: Fault::Window, layer: 15 };
     let said = "refused: 13 WINDOW in layer 15: a window's left, top, width and height are 0 to 2048";
     assert_eq!(refusal.to_string(), said);
+    let refusal = Refusal { fault: Fault::JobNumber, layer: 0 };
+    assert_eq!(refusal.to_string(), "refused: 14 JOB NUMBER: the mark's job number is not the call's");
+    assert_eq!(JobNumber(0xab).to_string(), "00000000000000ab");
     let with_layer: Vec<u64> =
         Fault::ALL.iter().filter(|fault| fault.has_layer()).map(|fault| fault.number()).collect();
     assert_eq!(with_layer, [3, 4, 5, 6, 7, 8, 13]);

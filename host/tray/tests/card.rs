@@ -2,8 +2,8 @@
 //! the crate prints is read back.
 
 use tray::raw::{self, CardAnswers};
-use tray::{job, Card, CardFault, Error, Fault, Flags, Gravity, Layer, Memory, NoCard, Operator, Refusal, Source};
-use tray::{Stack, Window, ARGUMENTS, COLUMNS, LAYERS};
+use tray::{job, Card, CardFault, Error, Fault, Flags, Gravity, JobNumber, Layer, Memory, NoCard, Operator};
+use tray::{Refusal, Source, Stack, Window, ARGUMENTS, COLUMNS, LAYERS};
 
 const TRAY: &str = "(tray 1 2 1 3)\n";
 const LAYER: &str = "(layer over (place 0 3 -2) (flags 62) (source 0 2 1 3) (args 3f000000))\n";
@@ -267,8 +267,8 @@ fn a_card_whose_job_is_refused() {
     let answer = |text: &str| {
         let card: Card = text.parse().unwrap();
         let (mut work0, mut work1) = ([0; 8], [0; 8]);
-        let memory = Memory { work0: &mut work0, work1: &mut work1, mark: &mut [0] };
-        let called = job(&card.inputs(&dst, &samples), u64::MAX, memory).map(drop);
+        let memory = Memory { work0: &mut work0, work1: &mut work1, mark: &mut [0, 5] };
+        let called = job(&card.inputs(&dst, &samples), JobNumber(5), u64::MAX, memory).map(drop);
         assert_eq!(card.check(), called, "{text}");
         called
     };

@@ -4,7 +4,7 @@
 
 use std::arch::asm;
 use tray::{compose, environment, job, narrow, narrow_bytes};
-use tray::{Environment, Error, Inputs, Layer, Memory, Operator, Source, Stack};
+use tray::{Environment, Error, Inputs, JobNumber, Layer, Memory, Operator, Source, Stack};
 
 /// As a program starts: no trap, nothing flushed, rounding to nearest.
 const DEFAULT: u32 = 0x1f80;
@@ -36,15 +36,16 @@ fn each_call_is_refused() {
     let Stack { table, args } = &stack;
     let inputs = Inputs { width: 1, height: 1, channels: 4, dst: &pixel, layers: 1, table, args, samples: &pixel };
     for (mxcsr, environment) in WRONG {
-        let (mut out, mut work, mut gray, mut bytes, mut mark) = ([7; 4], [[7; 4]; 2], [7], [7; 4], [0]);
+        let (mut out, mut work, mut gray, mut bytes, mut mark) = ([7; 4], [[7; 4]; 2], [7], [7; 4], [0; 2]);
         let [work0, work1] = &mut work;
         let composed = under(mxcsr, || compose(&inputs, &mut out));
         assert_eq!(composed, Err(Error::Environment(environment)));
         assert_eq!(under(mxcsr, || narrow(1, &pixel, &mut gray)), Err(Error::Environment(environment)));
         assert_eq!(under(mxcsr, || narrow_bytes(4, &pixel, &mut bytes)), Err(Error::Environment(environment)));
-        let called = under(mxcsr, || job(&inputs, u64::MAX, Memory { work0, work1, mark: &mut mark }));
+        let memory = Memory { work0, work1, mark: &mut mark };
+        let called = under(mxcsr, || job(&inputs, JobNumber(0), u64::MAX, memory));
         assert_eq!(called, Err(Error::Environment(environment)));
-        assert_eq!((out, work, gray, bytes, mark), ([7; 4], [[7; 4]; 2], [7], [7; 4], [0]), "something was written");
+        assert_eq!((out, work, gray, bytes, mark), ([7; 4], [[7; 4]; 2], [7], [7; 4], [0; 2]), "something was written");
     }
     let mut out = [0; 4];
     assert_eq!(compose(&inputs, &mut out), Ok(()));

@@ -2,9 +2,13 @@
 //! COUNT / 10 narrowings and COUNT / 10 names, put to the compiled Rust with document 01's model around it and
 //! to the other side: the static library that the feature `tray` links, or else the restatement. Every
 //! word, answer, count and untouched word is compared. The first mismatch is shrunk, and printed as a line
-//! that the vectors' program can replay. The counts at the end say what windows had to do with it.
+//! that the vectors' program can replay. The counts at the end say what windows, marks and job numbers had to do
+//! with it.
 //!
-//! stream grays COUNT SEED: instead of these COUNT random pixels, narrowed to one channel as words and as bytes.
+//! stream jobs COUNT SEED: instead of these COUNT random jobs, each with lists of calls of which some have wrong job
+//! numbers, other marks or other inputs.
+//!
+//! stream grays COUNT SEED: instead COUNT random pixels, narrowed to one channel as words and as bytes.
 //!
 //! stream cards COUNT SEED: instead COUNT random texts, read as cards, against the model of document 02.
 //!
@@ -17,7 +21,7 @@ use oracle::name_texts;
 use oracle::ours;
 use oracle::random::Random;
 use oracle::reference::is_map;
-use oracle::request::{COLUMNS, Job, Memory, Side, WHOLE, WINDOW, Window};
+use oracle::request::{Answer, COLUMNS, Call, Job, Memory, Side, WHOLE, WINDOW, Window};
 use oracle::restated::{Reading, Restated};
 use oracle::shrink::shrink;
 use oracle::window;
@@ -41,6 +45,7 @@ struct Counts {
     accepted_cards: u64,
     layers: u64,
     windows: Windows,
+    marks: Marks,
 }
 
 /// How much windows had to do with it.
@@ -89,6 +94,76 @@ impl Windows {
     }
 }
 
+/// What marks and job numbers had to do with it, in calls.
+#[derive(Default)]
+struct Marks {
+    /// Refused by 10: lists of no, one, and three or more numbers.
+    lengths: [u64; 3],
+    /// Refused by 10: positions past the bound under the mark's number and under another.
+    past: [u64; 2],
+    /// Refused by 14, and accepted.
+    refused: Places,
+    accepted: Places,
+}
+
+/// Calls by the position that they find.
+#[derive(Default)]
+struct Places {
+    empty: u64,
+    fresh: u64,
+    middle: u64,
+    finished: u64,
+}
+
+impl Places {
+    fn add(&mut self, job: &Job, position: u64) {
+        let pixels = (job.width * job.height) as u64;
+        let place = match position {
+            _ if pixels == 0 => &mut self.empty,
+            0 => &mut self.fresh,
+            n if n == (job.layers as u64 + 1) * pixels => &mut self.finished,
+            _ => &mut self.middle,
+        };
+        *place += 1;
+    }
+
+    fn sum(&self) -> u64 {
+        self.empty + self.fresh + self.middle + self.finished
+    }
+}
+
+impl std::fmt::Display for Places {
+    fn fmt(&self, f: &mut std::fmt::Formatter) -> std::fmt::Result {
+        let Places { empty, fresh, middle, finished } = self;
+        write!(
+            f,
+            "{} (at position 0 {fresh}, within the work {middle}, finished {finished}, on an empty tray {empty})",
+            self.sum()
+        )
+    }
+}
+
+impl Marks {
+    /// A call that found this mark.
+    fn call(&mut self, job: &Job, call: Call, mark: &[u64], answer: &Answer) {
+        match (answer.number, mark) {
+            (0, [position, _]) => self.accepted.add(job, *position),
+            (14, [position, _]) => self.refused.add(job, *position),
+            (10, [_, number]) => self.past[(*number != call.job_number) as usize] += 1,
+            (10, list) => self.lengths[list.len().min(2)] += 1,
+            _ => {}
+        }
+    }
+
+    fn calls(&mut self, job: &Job, memory: &Memory, calls: &[Call], answers: &[(Answer, u64)]) {
+        let mut mark = memory.mark.clone();
+        for (call, (answer, position)) in calls.iter().zip(answers) {
+            self.call(job, *call, &mark, answer);
+            mark.iter_mut().take(1).for_each(|n| *n = *position);
+        }
+    }
+}
+
 struct Stream {
     side: Box<dyn Side>,
     counts: Counts,
@@ -117,13 +192,14 @@ impl Stream {
                     counts.windows.composition(job, out);
                 }
             }
-            (Request::Calls { job, .. }, Outcome::Calls { answers, .. }) => {
+            (Request::Calls { job, memory, calls }, Outcome::Calls { answers, .. }) => {
                 let with = |number: u64| answers.iter().filter(|(a, _)| a.number == number).count() as u64;
                 counts.calls += answers.len() as u64;
                 counts.refused_calls += answers.len() as u64 - with(0);
                 counts.stores += answers.iter().map(|(a, _)| a.stores).sum::<u64>();
                 counts.windows.calls += if with(0) > 0 && cuts(job) { with(0) } else { 0 };
                 counts.windows.refused_calls += with(13);
+                counts.marks.calls(job, memory, calls, answers);
             }
             (Request::Name(_), _) => counts.names += 1,
             (_, Outcome::Card { answer, .. }) => {
@@ -144,12 +220,23 @@ impl Stream {
                 self.compare(random.name());
             }
             if i % 100 == 0 {
-                self.counts.jobs += 1;
-                random.job_requests(|request| match self.compare(request) {
-                    Outcome::Calls { memory, .. } => memory,
-                    _ => Memory::default(),
-                });
+                self.job(random);
             }
+        }
+    }
+
+    /// A job with its lists of calls.
+    fn job(&mut self, random: &mut Random) {
+        self.counts.jobs += 1;
+        random.job_requests(|request| match self.compare(request) {
+            Outcome::Calls { memory, .. } => memory,
+            _ => Memory::default(),
+        });
+    }
+
+    fn jobs(&mut self, count: u64, random: &mut Random) {
+        for _ in 0..count {
+            self.job(random);
         }
     }
 
@@ -220,18 +307,19 @@ fn told<T: PartialEq + Debug>(list: &[T], fill: T) -> String {
 /// What is asked, if it is not requests of every kind; and a count and a seed, which `names` has not.
 fn words() -> Option<(Option<&'static str>, [u64; 2])> {
     let words: Vec<String> = std::env::args().skip(1).collect();
-    let kind = ["grays", "cards", "names"].into_iter().find(|kind| words.first().is_some_and(|word| word == kind));
+    let kinds = ["jobs", "grays", "cards", "names"];
+    let kind = kinds.into_iter().find(|kind| words.first().is_some_and(|word| word == kind));
     let numbers = words[kind.is_some() as usize..].iter().map(|word| word.parse().ok());
     match (kind, &numbers.collect::<Option<Vec<u64>>>()?[..]) {
         (Some("names"), []) => Some((kind, [0; 2])),
-        (None | Some("grays" | "cards"), &[count, seed]) => Some((kind, [count, seed])),
+        (None | Some("jobs" | "grays" | "cards"), &[count, seed]) => Some((kind, [count, seed])),
         _ => None,
     }
 }
 
 fn main() {
     let Some((kind, [count, seed])) = words() else {
-        eprintln!("stream [grays | cards] COUNT SEED, or stream names");
+        eprintln!("stream [jobs | grays | cards] COUNT SEED, or stream names");
         std::process::exit(2)
     };
     let (side, name): (Box<dyn Side>, _) = match ours::linked() {
@@ -241,6 +329,7 @@ fn main() {
     let mut random = Random::new(seed);
     let mut stream = Stream { side, counts: Counts::default() };
     match kind {
+        Some("jobs") => stream.jobs(count, &mut random),
         Some("grays") => stream.grays(count, &mut random),
         Some("cards") => stream.cards(count, &mut random),
         Some(_) => stream.names(),
@@ -255,6 +344,7 @@ fn main() {
     println!("{judge} against {name}{seed}: no mismatch");
     let c = stream.counts;
     match kind {
+        Some("jobs") => report_jobs(&c),
         Some("grays") => println!("pixels narrowed to one channel {}, each as a word and as a byte", c.grays),
         Some("cards") => println!("texts {} ({} accepted, with {} layers)", c.cards, c.accepted_cards, c.layers),
         Some(_) => report_names(&c),
@@ -268,9 +358,22 @@ fn report_names(c: &Counts) {
     println!("texts {} ({known} known): {}", c.names, kinds.join(", "));
 }
 
+fn report_jobs(c: &Counts) {
+    println!("jobs {}, their calls {} ({} refused, {} stores)", c.jobs, c.calls, c.refused_calls, c.stores);
+    let m = &c.marks;
+    let ([none, one, more], [past, past_wrong]) = (m.lengths, m.past);
+    println!("calls accepted {}", m.accepted);
+    println!("refused by 14: {}", m.refused);
+    println!(
+        "refused by 10: {} (marks of no number {none}, of one {one}, of three or four {more}, \
+         a position past the bound under the mark's number {past}, under another {past_wrong})",
+        none + one + more + past + past_wrong
+    );
+}
+
 fn report_requests(c: &Counts) {
     println!("compositions {} ({} refused, {} pixels)", c.compositions, c.refused, c.pixels);
-    println!("jobs {}, their calls {} ({} refused, {} stores)", c.jobs, c.calls, c.refused_calls, c.stores);
+    report_jobs(c);
     println!("narrowings {}, names {}", c.narrowings, c.names);
     let w = &c.windows;
     println!("windows cut {} compositions ({} of maps, {} with tiles or overlay)", w.cut, w.maps, w.spread);

@@ -13,8 +13,8 @@
 //! N wanted INPUT length                                   number OUT
 //! B wanted INPUT length                                   number OUT
 //! C width height channels DST TABLE ARGS SAMPLES length   number OUT
-//! J width height channels DST layers TABLE ARGS SAMPLES WORK0 WORK1 MARK ALLOWANCES
-//!     {number layer stores finished mark} for each allowance, then WORK0 WORK1 MARK
+//! J width height channels DST layers TABLE ARGS SAMPLES WORK0 WORK1 MARK CALLS
+//!     {number layer stores finished mark} for each call, then WORK0 WORK1 MARK
 //! R TEXT table args                                       number line width height channels layers TABLE ARGS
 //! ```
 //!
@@ -46,7 +46,7 @@ const LIMITS: [(&str, usize); 15] = [
     ("output", 256),
     ("work", 256),
     ("mark", 4),
-    ("allowances", 16),
+    ("calls", 32),
     ("card", 2048),
     ("card table", 320),
     ("card args", 128),
@@ -87,10 +87,11 @@ fn lengths(request: &Request, seen: &mut impl FnMut(&'static str, usize)) {
             seen("output", *length);
             lists(job, seen);
         }
-        Request::Calls { job, memory, allowances } => {
+        Request::Calls { job, memory, calls } => {
             seen("work", memory.work[0].len().max(memory.work[1].len()));
             seen("mark", memory.mark.len());
-            seen("allowances", allowances.len());
+            // A job number and an allowance each.
+            seen("calls", 2 * calls.len());
             lists(job, seen);
         }
         Request::Card { text, table, args } => {

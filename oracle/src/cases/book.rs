@@ -2,7 +2,7 @@
 
 use crate::compare::expected;
 use crate::lines::{Outcome, Request, Writer};
-use crate::request::{Job, Memory};
+use crate::request::{Call, Job, Memory, under};
 
 /// The lines of the file, as they are made.
 #[derive(Default)]
@@ -40,9 +40,15 @@ impl Book {
         self.single(job, 4 * area as usize);
     }
 
-    /// Calls of a job, and the memory after them.
+    /// Calls of a job under the mark's own number (0 where it has none), and the memory after them.
     pub fn calls(&mut self, job: &Job, memory: &Memory, allowances: &[u64]) -> Memory {
-        let request = Request::Calls { job: job.clone(), memory: memory.clone(), allowances: allowances.to_vec() };
+        let number = memory.mark.get(1).copied().unwrap_or(0);
+        self.numbered(job, memory, &under(number, allowances))
+    }
+
+    /// Calls of a job under any numbers, and the memory after them.
+    pub fn numbered(&mut self, job: &Job, memory: &Memory, calls: &[Call]) -> Memory {
+        let request = Request::Calls { job: job.clone(), memory: memory.clone(), calls: calls.to_vec() };
         match self.put(request) {
             Outcome::Calls { memory, .. } => memory,
             _ => unreachable!("calls answer as calls"),

@@ -6,13 +6,16 @@ use super::layer::Row;
 use crate::random::{Random, carried};
 use crate::request::{COLUMNS, Job, Memory};
 
-const ALL: u64 = u64::MAX;
+pub const ALL: u64 = u64::MAX;
 
-/// Work buffers with content of their own, at mark 0.
+/// The number of most jobs: more than every position that they reach, and short, so that the lines are.
+pub const NUMBER: u64 = 0xf7;
+
+/// Work buffers with content of their own, at position 0.
 pub fn fresh(job: &Job) -> Memory {
     let size = (job.width * job.height * 4) as u32;
     let words = |first: u32| (first..first + size).collect();
-    Memory { work: [words(0x100), words(0x300)], mark: vec![0] }
+    Memory { work: [words(0x100), words(0x300)], mark: vec![0, NUMBER] }
 }
 
 /// A job of the given operators, on a tray and with sources that tell their pixels apart.
@@ -133,9 +136,10 @@ fn refused_between(book: &mut Book, random: &mut Random) {
 fn elsewhere(book: &mut Book, random: &mut Random) {
     book.note("jobs: marks and work pictures that no job of these inputs has left: each phase reads what it finds");
     let job = stacked(random, (3, 2, 3), &[0, 65, 22, 48]);
-    for mark in [1, 5, 6, 7, 11, 12, 13, 18, 23, 24, 29, 30] {
-        let memory = Memory { work: [random.words(24), random.words(24)], mark: vec![mark] };
+    for position in [1, 5, 6, 7, 11, 12, 13, 18, 23, 24, 29, 30] {
+        let mark = vec![position, NUMBER];
+        let memory = Memory { work: [random.words(24), random.words(24)], mark: mark.clone() };
         book.calls(&job, &memory, &[9, 33, 0]);
-        book.calls(&job, &Memory { mark: vec![mark], ..fresh(&job) }, &[ALL]);
+        book.calls(&job, &Memory { mark, ..fresh(&job) }, &[ALL]);
     }
 }

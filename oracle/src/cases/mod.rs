@@ -8,6 +8,7 @@ mod jobs;
 mod layer;
 mod names;
 mod narrowing;
+mod numbers;
 mod operators;
 mod placing;
 mod refusals;
@@ -32,6 +33,7 @@ pub fn all() -> Book {
     traps::put(&mut book);
     refusals::put(&mut book);
     jobs::put(&mut book);
+    numbers::put(&mut book);
     cards::put(&mut book);
     spoiled::put(&mut book);
     book

@@ -65,15 +65,15 @@ pub fn put(book: &mut Book) {
     round(book, "special alphas against each other", dst, source);
     let mut random = Random::new(7);
     let mut drawn = |rows, draw: &dyn Fn(u64) -> u32| picture_of(&mut random, rows, draw);
-    let byte = |n: u64| ((n % 256) as f32 / 255.0).to_bits();
-    let (dst, samples) = (drawn(SIDE, &byte), drawn(SIDE, &byte));
-    round(book, "bytes", dst, samples);
     // Fewer rows: the whole file has to fit into the room of the program that replays it.
+    let byte = |n: u64| ((n % 256) as f32 / 255.0).to_bits();
+    let (dst, samples) = (drawn(6, &byte), drawn(6, &byte));
+    round(book, "bytes", dst, samples);
     let unit = |n: u64| ((n % (1 << 24)) as f32 / (1 << 24) as f32).to_bits();
     let (dst, samples) = (drawn(5, &unit), drawn(5, &unit));
     round(book, "between 0 and 1", dst, samples);
     let around = |n: u64| ((n % (1 << 20)) as f32 / (1 << 18) as f32 - 1.5).to_bits();
-    let (dst, samples) = (drawn(SIDE, &around), drawn(SIDE, &around));
+    let (dst, samples) = (drawn(6, &around), drawn(6, &around));
     round(book, "from -1.5 to 2.5", dst, samples);
 }
 

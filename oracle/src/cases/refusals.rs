@@ -2,9 +2,13 @@
 
 use super::book::Book;
 use super::layer::Row;
-use crate::request::{COLUMNS, Job, Memory, WINDOW};
+use crate::request::{COLUMNS, Call, Job, Memory, WINDOW};
 
 const LAYERS: usize = 4;
+
+/// The job's number, past the mark's bound, and a wrong one.
+const NUMBER: u64 = 15;
+const WRONG: u64 = 3;
 
 /// Two pixels, four layers, eight samples; every layer reads two samples of its own.
 fn base() -> (Job, Memory) {
@@ -25,7 +29,7 @@ fn base() -> (Job, Memory) {
         args: vec![0x3f80_0000; LAYERS * 4],
         samples: (0..8).map(word).collect(),
     };
-    let memory = Memory { work: [(1..9).collect(), (11..19).collect()], mark: vec![0] };
+    let memory = Memory { work: [(1..9).collect(), (11..19).collect()], mark: vec![0, NUMBER] };
     (job, memory)
 }
 
@@ -139,7 +143,7 @@ fn tray(book: &mut Book, job: &Job, memory: &Memory) {
         let dst = job.dst.iter().copied().cycle().take(length).collect();
         Job { width, height, channels, dst, ..job.clone() }
     };
-    let none = Memory { work: [vec![], vec![]], mark: vec![0] };
+    let none = Memory { work: [vec![], vec![]], mark: memory.mark.clone() };
     for far in [0, 2048, 2049, -1, i64::MIN, i64::MAX] {
         for (width, height) in [(far, 0), (0, far), (far, 1), (1, far), (far, far)] {
             book.calls(&sized(width, height, 1, 0), &none, &[7]);
@@ -193,22 +197,23 @@ fn lent(book: &mut Book, job: &Job, memory: &Memory) {
         book.calls(job, &Memory { work, mark: memory.mark.clone() }, &[7]);
     }
     let with = |mark: &[u64]| Memory { work: memory.work.clone(), mark: mark.to_vec() };
-    for mark in [0, 1, 7, 8, 9, 10, 11, 12, 49, 50, 51, 1 << 32, 1 << 63, u64::MAX] {
-        book.calls(job, &with(&[mark]), &[7, 0]);
+    for position in [0, 1, 7, 8, 9, 10, 11, 12, 49, 50, 51, 1 << 32, 1 << 63, u64::MAX] {
+        book.calls(job, &with(&[position, NUMBER]), &[7, 0]);
     }
-    for mark in [&[][..], &[0, 0], &[0, 99], &[3, 3, 3], &[10, 0], &[11, 0]] {
+    for mark in [&[][..], &[0], &[10], &[0, 0, 0], &[0, 0, 99], &[10, 0, 0], &[11, 0, 0], &[3, 3, 3, 3]] {
         book.calls(job, &with(mark), &[7]);
     }
     let none = |mark: &[u64]| Memory { work: [vec![], vec![]], mark: mark.to_vec() };
     let empty = Job { width: 0, height: 3, dst: vec![], ..job.clone() };
-    for mark in [&[0][..], &[1], &[2], &[u64::MAX], &[], &[0, 0]] {
+    for mark in [&[0, NUMBER][..], &[1, NUMBER], &[2, NUMBER], &[u64::MAX, NUMBER], &[], &[0], &[0, 0, 0]] {
         book.calls(&empty, &none(mark), &[0, 7]);
     }
-    book.calls(&empty, &with(&[0]), &[7]);
-    book.calls(&empty, &Memory { work: [vec![1], vec![]], mark: vec![0] }, &[7]);
+    book.calls(&empty, &with(&memory.mark), &[7]);
+    book.calls(&empty, &Memory { work: [vec![1], vec![]], mark: memory.mark.clone() }, &[7]);
 }
 
-/// Two faults of a row's numbers, in one layer or in two, and faults of rows with those of the rest.
+/// Two faults of a row's numbers, in one layer or in two, and faults of rows with those of the rest, under the job's
+/// number and under a wrong one.
 fn several(book: &mut Book, job: &Job, memory: &Memory) {
     book.note("refusals: several faults at once, the first in document 01's order answers");
     for (a, first) in FAULTS {
@@ -249,9 +254,9 @@ fn several(book: &mut Book, job: &Job, memory: &Memory) {
                 lent.work[1].push(0);
             }
             if rest & 16 != 0 {
-                lent.mark = vec![11];
+                lent.mark = vec![11, NUMBER];
             }
-            book.calls(&bad, &lent, &[7]);
+            book.numbered(&bad, &lent, &[NUMBER, WRONG].map(|job_number| Call { job_number, allowance: 7 }));
         }
     }
 }

@@ -6,14 +6,17 @@ use super::layer::pairs;
 use crate::compare::{agrees, expected};
 use crate::lines::{Case, Reader, Request, ask, parts};
 use crate::model::Reference;
-use crate::request::{COLUMNS, Job, Memory, WINDOW, words};
+use crate::request::{COLUMNS, Call, Job, Memory, WINDOW, under, words};
 use crate::restated::{Reading, Restated, Wrong};
+
+/// The number of the jobs here.
+const NUMBER: u64 = 6;
 
 /// A case of each kind, small enough that its answer is spoiled number by number.
 fn cases() -> Vec<Case> {
     let job = pairs(6, &[([0.25, 0.5, 0.75, 1.0], [0.5, 0.75, 1.0, 0.5])], &[]);
     let input = job.dst.clone();
-    let memory = Memory { work: [vec![1; 4], vec![2; 4]], mark: vec![0] };
+    let memory = Memory { work: [vec![1; 4], vec![2; 4]], mark: vec![0, NUMBER] };
     let mut bad = Job { layers: 2, table: job.table.repeat(2), args: vec![0; 8], ..job.clone() };
     bad.table[COLUMNS + WINDOW] = -1;
     let requests = [
@@ -25,8 +28,9 @@ fn cases() -> Vec<Case> {
         Request::Compose { job: job.clone(), length: 4 },
         Request::Compose { job: job.clone(), length: 5 },
         Request::Compose { job: cleared(), length: 8 },
-        Request::Calls { job: bad, memory: memory.clone(), allowances: vec![5] },
-        Request::Calls { job, memory, allowances: vec![3, 100, 0] },
+        Request::Calls { job: bad, memory: memory.clone(), calls: under(NUMBER, &[5]) },
+        Request::Calls { job: job.clone(), memory: memory.clone(), calls: under(NUMBER, &[3, 100, 0]) },
+        Request::Calls { job, memory, calls: under(NUMBER + 1, &[3]) },
         Request::Card { text: super::cards::CARD.into(), table: 224, args: 64 },
         Request::Card { text: super::cards::TRAY.trim_end().into(), table: 224, args: 64 },
     ];
@@ -84,13 +88,13 @@ fn windows() -> impl Iterator<Item = String> {
     let job = cleared();
     let table = [pairs(17, &[([0.5; 4], [0.25; 4]); 2], &[]).table, job.table.clone()].concat();
     let stack = Job { layers: 2, table, args: vec![0; 8], ..job.clone() };
-    let memory = Memory { work: [vec![1; 8], vec![2; 8]], mark: vec![0] };
+    let memory = Memory { work: [vec![1; 8], vec![2; 8]], mark: vec![0, NUMBER] };
     let mut bad = job.clone();
     bad.table[WINDOW + 3] = 2049;
     let ten = Job { table: job.table[..WINDOW].to_vec(), ..job.clone() };
     let compose = |job: Job| Request::Compose { job, length: 8 };
     let card = |table: usize| Request::Card { text: super::cards::CARD.into(), table, args: 64 };
-    let calls = Request::Calls { job: stack, memory, allowances: vec![8, 23] };
+    let calls = Request::Calls { job: stack, memory, calls: under(NUMBER, &[8, 23]) };
     let asked: [(Request, &[Wrong]); 6] = [
         (
             compose(job),
@@ -106,6 +110,57 @@ fn windows() -> impl Iterator<Item = String> {
         (card(160), &[Wrong::CardTenNumbers]),
     ];
     asked.into_iter().flat_map(|(request, wrongs)| wrongs.iter().map(move |wrong| misread(request.clone(), *wrong)))
+}
+
+/// Job numbers: answers in which only the refusal, the mark's second number or what a refused call leaves is wrong.
+fn numbers() -> impl Iterator<Item = String> {
+    let job = pairs(17, &[([0.5; 4], [0.25; 4])], &[]);
+    let other = NUMBER + 1;
+    let calls = |position: u64, calls: &[(u64, u64)]| Request::Calls {
+        job: job.clone(),
+        memory: Memory { work: [vec![1; 4], vec![2; 4]], mark: vec![position, NUMBER] },
+        calls: calls.iter().map(|&(job_number, allowance)| Call { job_number, allowance }).collect(),
+    };
+    let asked: [(Request, &[Wrong]); 6] = [
+        (
+            calls(0, &[(other, 7)]),
+            &[Wrong::NumberUnchecked, Wrong::NumberTakenFresh, Wrong::NumberNamed, Wrong::NumberStores],
+        ),
+        (calls(1, &[(other, 0)]), &[Wrong::NumberNotIdle, Wrong::NumberBegins, Wrong::NumberAsMark]),
+        (
+            calls(1, &[(other, 3)]),
+            &[Wrong::NumberAfterStores, Wrong::NumberResets, Wrong::NumberTaken, Wrong::NumberRestarts],
+        ),
+        (calls(2, &[(other, 5)]), &[Wrong::NumberNotFinished, Wrong::NumberFinished]),
+        (calls(3, &[(other, 5)]), &[Wrong::NumberBeforeBound]),
+        (calls(0, &[(NUMBER, 6), (NUMBER, 9)]), &[Wrong::PositionTwice, Wrong::NumberSixth, Wrong::NumberReleased]),
+    ];
+    asked.into_iter().flat_map(|(request, wrongs)| wrongs.iter().map(move |wrong| misread(request.clone(), *wrong)))
+}
+
+/// Lists of calls with an odd count, each with the answers to calls of these allowances under the job's number: the
+/// number left over is an allowance alone, is dropped, or is a call's whose allowance is taken for 0.
+const ODD: [(&[u64], &[u64]); 7] = [
+    (&[7], &[7]),
+    (&[NUMBER], &[]),
+    (&[NUMBER], &[0]),
+    (&[NUMBER, 7, NUMBER], &[7]),
+    (&[NUMBER, 7, NUMBER], &[7, 0]),
+    (&[NUMBER, 7, 7], &[7, 7]),
+    (&[NUMBER, 7, NUMBER, 7, NUMBER], &[7, 7]),
+];
+
+fn odd_calls() -> impl Iterator<Item = String> {
+    let job = pairs(17, &[([0.5; 4], [0.25; 4])], &[]);
+    let memory = Memory { work: [vec![1; 4], vec![2; 4]], mark: vec![0, NUMBER] };
+    ODD.into_iter().map(move |(calls, allowances)| {
+        let (job, memory) = (job.clone(), memory.clone());
+        let (asked, answered) = parts(&expected(Request::Calls { job, memory, calls: under(NUMBER, allowances) }));
+        let tokens: Vec<&str> = asked.split(' ').collect();
+        let before = tokens[..tokens.len() - 1 - 2 * allowances.len()].join(" ");
+        let numbers: String = calls.iter().map(|n| format!(" {n:x}")).collect();
+        format!("{before} {:x}{numbers}{answered}", calls.len())
+    })
 }
 
 /// Texts that go on behind a name, answered with its operator.
@@ -135,7 +190,7 @@ pub fn put(book: &mut Book) {
         let (asked, answered) = parts(&case);
         spoiled(&asked, &answered).iter().for_each(|line| put(line, false));
     }
-    names().chain(windows()).for_each(|line| put(&line, false));
+    names().chain(windows()).chain(numbers()).chain(odd_calls()).for_each(|line| put(&line, false));
     // By deep.rs as it is, these are right.
     grays().for_each(|line| put(&line, cfg!(feature = "unchanged")));
 }

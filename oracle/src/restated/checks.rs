@@ -1,11 +1,11 @@
-//! Document 01's table of faults with document 02's 13: the bounds, and the order in which they are looked at.
+//! Document 01's table of faults with document 02's 13 and 14: the bounds, and the order in which they are looked at.
 
 use super::sites::Bound;
 use super::wrong::{Reading, Wrong};
-use crate::request::{ARGUMENTS, COLUMNS, Job, Memory, WINDOW};
+use crate::request::{ARGUMENTS, COLUMNS, Call, Job, Memory, WINDOW};
 
 /// A fault and its layer.
-type Fault = (u64, u64);
+pub type Fault = (u64, u64);
 
 /// The bounds of a window's four numbers.
 const WINDOW_BOUNDS: [(Bound, Bound); 4] = [
@@ -30,7 +30,7 @@ impl Reading {
         n == 1 || n == 3 || n == 4 || n == 2 && self.is(two)
     }
 
-    fn stack(self, job: &Job) -> bool {
+    pub fn stack(self, job: &Job) -> bool {
         let length =
             |have: usize, want: i64, longer: Wrong| have as i64 == want || self.is(longer) && have as i64 > want;
         self.within(job.layers, (Bound::LayersLow, 1), (Bound::LayersHigh, 16))
@@ -38,7 +38,7 @@ impl Reading {
             && length(job.args.len(), job.layers * ARGUMENTS as i64, Wrong::ArgumentsLonger)
     }
 
-    fn tray(self, job: &Job) -> bool {
+    pub fn tray(self, job: &Job) -> bool {
         let length = |size: i64| match self.wrong {
             Some(Wrong::TrayLonger) => job.dst.len() as i64 >= size,
             Some(Wrong::TrayLengthUnchecked) => true,
@@ -190,7 +190,7 @@ impl Reading {
         self.layers(job)
     }
 
-    fn work(self, job: &Job, memory: &Memory) -> bool {
+    pub fn work(self, job: &Job, memory: &Memory) -> bool {
         let want = job.width * job.height * if self.is(Wrong::WorkByChannels) { job.channels } else { 4 };
         let good =
             |work: &Vec<u32>| work.len() as i64 == want || self.is(Wrong::WorkLonger) && work.len() as i64 > want;
@@ -205,17 +205,22 @@ impl Reading {
             Some(Wrong::MarkInStores) => (job.layers as u64 + 1) * pixels * 5,
             _ => (job.layers as u64 + 1) * pixels,
         };
+        let of_one = self.is(Wrong::MarkOfOneOnly);
         match memory.mark[..] {
             [] => self.is(Wrong::MarkMissing),
-            [_] if pixels == 0 && self.is(Wrong::MarkOfNothing) => true,
-            [mark] if self.is(Wrong::MarkUnfinished) => mark < most || most == 0,
-            [mark, ..] if memory.mark.len() == 1 || self.is(Wrong::MarkLonger) => mark <= most,
-            _ => false,
+            [first] => (of_one || self.is(Wrong::MarkOfOneForAll)) && first <= most,
+            _ if of_one => false,
+            [_, _] if pixels == 0 && self.is(Wrong::MarkOfNothing) => true,
+            [first, _] if self.is(Wrong::MarkUnfinished) => first < most || most == 0,
+            [_, second] if self.is(Wrong::MarkBoundOfNumber) => second <= most,
+            [first, second] if self.is(Wrong::MarkBoundOfBoth) => first <= most && second <= most,
+            [first, _] => first <= most,
+            [first, ..] => self.is(Wrong::MarkLonger) && first <= most,
         }
     }
 
     /// Every fault of a job's call.
-    pub fn fault(self, job: &Job, memory: &Memory) -> Option<Fault> {
+    pub fn fault(self, job: &Job, call: Call, memory: &Memory) -> Option<Fault> {
         let (work, mark) = (self.work(job, memory), || self.mark(job, memory));
         let layer = if self.is(Wrong::LayerOfMemory) { job.layers.wrapping_sub(1) as u64 } else { 0 };
         let lent = || match () {
@@ -228,7 +233,9 @@ impl Reading {
         if self.is(Wrong::WorkBeforeLayers) && self.stack(job) && self.tray(job) && !work {
             return Some((9, 0));
         }
-        self.inputs(job).or_else(lent)
+        let inputs = || self.inputs(job);
+        let early = self.number_early(job, call, memory);
+        early.or_else(inputs).or_else(lent).or_else(|| self.number(job, call, memory))
     }
 
     /// Fault 11.

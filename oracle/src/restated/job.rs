@@ -113,6 +113,8 @@ impl Reading {
         let start = memory.mark[0];
         let left = (end - start) * 5;
         let allowed = match self.wrong {
+            // Five of each six are stores of the list.
+            Some(Wrong::NumberSixth) => allowance / 6 * 5 + (allowance % 6).min(5),
             Some(Wrong::AllowanceInPixels) => allowance.saturating_mul(5),
             Some(Wrong::AllowanceOfWholePixels) => allowance / 5 * 5,
             Some(Wrong::AllowanceIn32Bits) => allowance as u32 as u64,
@@ -185,6 +187,7 @@ impl Reading {
         let mark = memory.mark[0];
         let stores = match self.wrong {
             Some(Wrong::ReportsAllowance) => allowance,
+            Some(Wrong::NumberSixth) => allowance.min((end - start) * 6),
             Some(Wrong::ReportsWholePixels) => (mark - start) * 5,
             Some(Wrong::ReportsChannels) => made - (mark - start),
             Some(Wrong::ReportsPixels) => mark - start,

@@ -1,7 +1,7 @@
 //! Document 01 worked out a second time, with no line of the Rust: float steps, operators, placing, names,
-//! narrowing, faults and the job, one store after the other; the gray, the card, the window and the list of the names as
-//! document 02 has them. Each place where a reader may go wrong has a switch (`wrong.rs`); with none set this agrees with
-//! the Rust and its model on every request.
+//! narrowing, faults and the job, one store after the other; the gray, the card, the window, the list of the names and
+//! the job number as document 02 has them. Each place where a reader may go wrong has a switch (`wrong.rs`); with none
+//! set this agrees with the Rust and its model on every request.
 
 // A negated comparison is another one where an operand is NaN, and some misreadings are just that.
 #![allow(clippy::neg_cmp_op_on_partial_ord)]
@@ -15,6 +15,7 @@ mod job;
 mod layer;
 mod names;
 mod narrow;
+mod number;
 mod operator;
 mod pixel;
 mod place;
@@ -25,7 +26,7 @@ pub mod wrong;
 
 pub use wrong::{Reading, Wrong};
 
-use crate::request::{Answer, CardAnswer, Job, Memory, Side};
+use crate::request::{Answer, Call, CardAnswer, Job, Memory, Side};
 
 /// This module as a side of a comparison.
 pub struct Restated {
@@ -75,19 +76,8 @@ impl Side for Restated {
         0
     }
 
-    fn call(&self, job: &Job, allowance: u64, memory: &mut Memory) -> Answer {
-        let job = &*self.reading.sheet(job, Wrong::JobTenNumbers);
-        match self.reading.fault(job, memory) {
-            Some((number, layer)) => {
-                if self.reading.is(Wrong::RefusalResetsMark) {
-                    memory.mark.fill(0);
-                }
-                let end = (job.layers as u64).wrapping_add(1).wrapping_mul(memory.work[0].len() as u64 / 4);
-                let finished = self.reading.is(Wrong::RefusalFinished) && memory.mark.first() == Some(&end);
-                Answer { finished, ..Answer::refused(number, layer) }
-            }
-            None => self.reading.accepted(job, allowance, memory),
-        }
+    fn call(&self, job: &Job, call: Call, memory: &mut Memory) -> Answer {
+        self.reading.call(&self.reading.sheet(job, Wrong::JobTenNumbers), call, memory)
     }
 
     fn read_card(&self, text: &[u8], table: &mut [i64], args: &mut [u32]) -> CardAnswer {

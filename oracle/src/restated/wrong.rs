@@ -345,7 +345,7 @@ misreadings! {
     WorkSecondOnly "only work picture 1 is looked at"
     MarkWithoutTray "the mark's limit leaves the tray's own phase out"
     MarkInStores "the mark's limit in stores"
-    MarkMissing "an empty list is a mark of 0"
+    MarkMissing "an empty list is a mark of 0, and of every job"
     MarkLonger "a longer mark is accepted"
     MarkOfNothing "an empty tray takes any mark"
     MarkUnfinished "a finished mark is refused"
@@ -453,6 +453,64 @@ misreadings! {
     FinishedNextTime "finished only by the call after the last store"
     RefusalFinished "a refused call answers finished on a finished mark"
     RefusalResetsMark "a refusal sets the mark to 0";
+
+    "a mark's two numbers":
+    MarkOfOneOnly "a mark is one number still, and every job's"
+    MarkOfOneForAll "a mark of one number is accepted too, and is every job's"
+    MarkOfOne "a mark of one number is accepted too, and is job 0's"
+    MarkExchanged "the job number stands before the position"
+    MarkBoundOfNumber "10 looks at the job number, not at the position"
+    MarkBoundOfBoth "10 looks at both numbers"
+    PositionTwice "the position is stored in both numbers"
+    NumberSixth "the job number is stored after each position, a sixth store"
+    NumberReleased "a finished mark is no job's, with the number 0"
+    NumberRaised "an accepted call leaves the next job number";
+
+    "which job numbers are alike":
+    NumberUnchecked "job numbers are not compared"
+    NumberLow32Bits "only the low 32 bits are compared"
+    NumberHigh32Bits "only the high 32 bits are compared"
+    NumberLow16Bits "only the low 16 bits are compared"
+    NumberWithoutSign "the highest bit is not compared"
+    NumberWithoutLowest "the lowest bit is not compared"
+    NumberParity "only the lowest bit is compared"
+    NumberInDouble "compared as floats of 64 bits"
+    NumberLater "a later job may take a mark"
+    NumberEarlier "an earlier job may take a mark"
+    NumberZeroCall "a call's number 0 is every mark's"
+    NumberZeroMark "a mark's number 0 is every call's"
+    NumberOfPosition "the call's number is compared with the position"
+    NumberIsAllowance "the call's number and its allowance exchanged";
+
+    "when job numbers are compared":
+    NumberNotFresh "not at position 0"
+    NumberFreshOnly "at position 0 only"
+    NumberNotBlank "not at a mark of two zeros"
+    NumberNotFinished "not at a finished mark"
+    NumberFinishedOnly "at a finished mark only"
+    NumberNotIdle "not with an allowance of 0"
+    NumberNotEmpty "not on an empty tray"
+    NumberNotWithinPhase "not within a phase"
+    NumberFirst "14 before 1"
+    NumberBeforeTray "14 before 2"
+    NumberBeforeLayers "14 before 3 to 8 and 13"
+    NumberBeforeWork "14 before 9"
+    NumberBeforeMark "14 before 10"
+    NumberBeforeBound "14 after the mark's length, before its position";
+
+    "what a wrong job number does":
+    NumberAsMark "it is refused as 10"
+    NumberOfLastLayer "14 answers the last layer"
+    NumberFinished "14 answers finished at a finished mark"
+    NumberStores "14 answers the stores that the call would make"
+    NumberAfterStores "the stores are made, and then 14 is answered"
+    NumberResets "14 sets the position to 0"
+    NumberNamed "14 writes the call's number"
+    NumberBegins "14 sets the position to 0 and writes the call's number"
+    NumberTaken "the call's number is written, and the work goes on"
+    NumberTakenFresh "at position 0 the call's number is written, and the work begins"
+    NumberTakenBlank "at a mark of two zeros the call's number is written, and the work begins"
+    NumberRestarts "the call's number is written, and the work begins anew at position 0";
 
     "numbers of a card":
     CardLeadingZero "a leading zero is taken"

@@ -19,7 +19,7 @@ returns c =
     let number = layer .before in
     let t = answered number in
     let fit = t .before .struct-told3 .given in
-    call-answered _ _ _ _ _ (sfits-of (fit .0 .1)) (sfits-of (fit .1 .0 .1)) (sfits-of (fit .1 .1 .0 .1)) (start t .fits .layers)
+    call-answered _ _ _ _ _ _ (sfits-of (fit .0 .1)) (sfits-of (fit .1 .0 .1)) (sfits-of (fit .1 .1 .0 .1)) (start t .fits .layers)
     (t .tray-job .ensures) (number .expect .ensures) (layer .expect2 .ensures) (stores .expect3 .ensures) (finished .expect4 .ensures)
     (c .before .position .ensures) (c .expect5 .ensures)
 

@@ -22,7 +22,7 @@ returns : tie.Need-returns
 returns c =
     let e = c .before .before in
     let f = start e .fits in
-    inputs-fault _ _ (rw (toZ-ofZ (f .count)) at (e .check .ensures)) (c .if1 .taken)
+    inputs-fault _ _ _ (rw (toZ-ofZ (f .count)) at (e .check .ensures)) (c .if1 .taken)
 
 -- inputs without one are bounded
 mul-pixels : tie.Need-mul-pixels
@@ -42,7 +42,7 @@ returns-2 c =
     let e = passed d in
     let f = start (e .before .before) .fits in
     rw (toZ-ofZ (f .count))
-    at (memory-fault _ _ (e .before .before .check .ensures) (e .if1 .left) (d .before .width-of .ensures) (d .height-of .ensures) (c .before .natural .ensures) (c .memory-fault .ensures))
+    at (memory-fault _ _ _ (e .before .before .check .ensures) (e .if1 .left) (d .before .width-of .ensures) (d .height-of .ensures) (c .before .natural .ensures) (c .memory-fault .ensures))
 
 pub fault-spec : {M : Type 1} → statement M
 fault-spec =

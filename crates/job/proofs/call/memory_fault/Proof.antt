@@ -17,4 +17,6 @@ memory-fault-spec =
     (λ c. search (eq-eqb, ne-eqb))
     (λ c. search needs)
     (λ c. search (eq-eqb, lt-ltb))
+    (λ c. search needs)
+    (λ c. search (eq-eqb, ne-eqb, le-ltb))
     (λ c. search (eq-eqb, le-ltb)))

@@ -1,8 +1,10 @@
-"""Rewrites a job folder as the command made it before layers had windows: edition 2, whose table has ten numbers a layer.
+"""Rewrites a job folder as the command of an older edition made it.
 
-    edition2.py JOB
+    older.py EDITION JOB
 
-The layers' windows must be the full ones. `held` is removed, so that the job is taken up at its checkpoint, which keeps its position."""
+Edition 3 is from before jobs had numbers: no number in its description, and a mark that is the position alone. Edition 2 is from before layers had windows
+too: its table has ten numbers a layer, and the layers' windows must be the full ones. `held` is removed, so that the job is taken up at its checkpoint, which
+keeps its position."""
 import os, re, struct, sys
 
 FACTOR, WORD = 0x9E3779B97F4A7C15, (1 << 64) - 1
@@ -34,9 +36,10 @@ def narrowed(table):
     return b"".join(struct.pack("<10q", *row[:10]) for row in rows)
 
 
-def described(text, table):
-    """The description with the other edition and the other table's digest."""
-    body = re.sub("^tray-job-3 ", "tray-job-2 ", text[: text.index("job ", 1)])
+def described(text, edition, table):
+    """The description with the older edition, without the job number, and with this table's digest."""
+    body = re.sub("^tray-job-4 ", f"tray-job-{edition} ", text[: text.index("\njob ") + 1])
+    body = re.sub("(?m)^number .*\n", "", body)
     body = re.sub("(?m)^table .*$", f"table {digest(table):016x}", body)
     return body + f"job {digest(body.encode()):016x}\n"
 
@@ -47,7 +50,7 @@ def pictures(position, pixels, work):
     return (work[(phase - 1) % 2] if phase else b""), work[phase % 2][: 16 * written]
 
 
-def main(job):
+def main(edition, job):
     def read(name):
         with open(f"{job}/{name}", "rb") as file:
             return file.read()
@@ -57,18 +60,19 @@ def main(job):
             file.write(content)
 
     assert (digest(b""), digest(b"tray, thirty-two bytes and more than that")) == (0xFA62707748EEC39E, 0xD77790FF22AACA9B)
-    table = narrowed(read("table"))
-    text = described(read("job").decode(), table)
+    table = narrowed(read("table")) if edition == "2" else read("table")
+    text = described(read("job").decode(), edition, table)
     width, height = map(int, text.split()[1:3])
     if os.path.exists(f"{job}/checkpoint"):
-        edition, position, _ = read("checkpoint").decode().split()
+        kept_edition, position, _ = read("checkpoint").decode().split()
         parts = pictures(int(position), width * height, [read("work0"), read("work1")])
         kept = struct.pack("<4Q", int(position), digest(text.encode()), *map(digest, parts))
-        write("checkpoint", f"{edition} {position} {digest(kept):016x}\n".encode())
+        write("checkpoint", f"{kept_edition} {position} {digest(kept):016x}\n".encode())
     write("table", table)
+    write("mark", read("mark")[:8])
     write("job", text.encode())
     if os.path.exists(f"{job}/held"):
         os.remove(f"{job}/held")
 
 
-main(sys.argv[1])
+main(*sys.argv[1:])
