@@ -11,7 +11,7 @@ use names::Named;
 use numerals::{Integer, Number};
 
 // What one byte of a form finds in a text: whether it is in form, its cell's number (0 where the byte is no hole), and the place after it.
-#[derive(Drop)]
+#[derive(Clone, Copy)]
 pub struct Part {
     pub good: bool,
     pub value: i64,
@@ -19,7 +19,7 @@ pub struct Part {
 }
 
 // An argument, where there is one more and it is good, and the place after it.
-#[derive(Drop)]
+#[derive(Clone, Copy)]
 pub struct Given {
     pub more: bool,
     pub good: bool,

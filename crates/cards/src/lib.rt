@@ -1,5 +1,6 @@
 // A job as text: a card (document 02, A.2). The reader judges the whole card first, and fills the lent lists only where it accepts it.
 // The contracts cite specs/; Cells, Forms and Card say what a card is, Answers what is answered and filled.
+#![tactic(auto)]
 mod copies; // copies.rt: a list copied into another
 mod holes; // holes.rt: what stands in a hole of a line's form
 mod lines; // lines.rt: a line's form, and lines of one form
@@ -19,7 +20,7 @@ use lines::{Count, Next, layer_lines, tray_line};
 
 // What is answered: the number, NONE or CARD; the first line out of form or too many, 0 for a list of another length; the destination's width, height and
 // channels, and the count of layers.
-#[derive(Drop)]
+#[derive(Clone, Copy)]
 pub struct Answer {
     pub number: u64,
     pub line: u64,

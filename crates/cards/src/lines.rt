@@ -13,14 +13,14 @@ use crate::holes::{holes, one};
 use layers::Layer;
 
 // Where a text is left.
-#[derive(Drop)]
+#[derive(Clone, Copy)]
 pub enum Next {
     At(usize),
     Nowhere,
 }
 
 // How many layer lines there are; or the first line that is out of form or one too many.
-#[derive(Drop)]
+#[derive(Clone, Copy)]
 pub enum Count {
     Layers(usize),
     BadLine(usize),

@@ -1,5 +1,6 @@
 // Composition: one layer on one picture, as `compose_float` of composite.rs has it. The contracts cite specs/Compose, Arguments and Single, and, of what
 // the code works out once a layer, specs/Plans and Ready.
+#![tactic(auto)]
 pub mod arguments; // arguments.rt: an operator's arguments with their defaults
 pub mod pixel; // pixel.rt: one pixel of the result
 pub mod plans; // plans.rt: a layer's plan
@@ -13,7 +14,7 @@ use pixels::Params;
 use places::Corner;
 
 // What a layer asks of each pixel, worked out once: its operator with its arguments, where its source lies, and what it may write.
-#[derive(Drop)]
+#[derive(Clone, Copy)]
 pub struct Plan {
     pub op: CompositeOp,
     pub params: Params,

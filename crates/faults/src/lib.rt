@@ -1,8 +1,9 @@
 // The numbers under which a job is refused: document 01, "Why a job is turned down", under the table's words, and those of document 02. specs/Faults has the
 // same numbers for the definitions.
+#![tactic(auto)]
 
 // A fault is answered as its number.
-#[derive(Drop)]
+#[derive(Clone, Copy)]
 pub struct Fault;
 
 impl Fault {

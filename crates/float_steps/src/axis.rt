@@ -7,7 +7,7 @@ use crate::whole::floor;
 
 // Where a coordinate falls on a side: the pixel at or before it, the one after, and how far along
 // it is from the one to the other.
-#[derive(Drop)]
+#[derive(Clone, Copy)]
 pub struct Axis {
     pub at: usize,
     pub next: usize,

@@ -1,6 +1,7 @@
 // Runs each float step on the rows of standard input and writes, a line a step, how many results are right and how many are wrong, and the same for the
 // spoiled rows, which it must not take, and for rows of no step; and where the first wrong row stands. A row has the form of a line of oracle/README.md. The
 // rows were worked out by tools/float-vectors/vectors.rs.
+#![tactic(auto)]
 mod rows;
 mod steps;
 

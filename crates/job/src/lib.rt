@@ -1,6 +1,7 @@
 // A job, stopped and taken up (document 01, "Stores and the mark"): layers composited in turn, written pixel by pixel into lent memory with a
 // checkpoint, so that a call cut at any write leaves what a later call goes on from. The contracts cite specs/Job.antt, Call and Memory, and
 // beneath the call Uses and Steps.
+#![tactic(auto)]
 pub mod call; // call.rt: a call of a job
 mod writes; // writes.rt: the writes of an accepted call, span by span
 mod fill; // fill.rt: pixels of one phase, composed into a buffer
@@ -8,7 +9,7 @@ mod pixel; // pixel.rt: the writes of a pixel, and of a span, from the buffer
 mod store; // store.rt: the one function that writes
 
 // One write (document 01: a store): a word of work buffer 0 or 1, or the job's position. None changes the checkpoint's other number, the job's.
-#[derive(Drop)]
+#[derive(Clone, Copy)]
 enum Write {
     Work0 { at: usize, word: u32 },
     Work1 { at: usize, word: u32 },
@@ -16,7 +17,7 @@ enum Write {
 }
 
 // The numbers of an accepted call: its inputs', the position that it found, and the writes that it makes.
-#[derive(Drop)]
+#[derive(Clone, Copy)]
 struct Extent {
     pub width: usize,
     pub height: usize,
@@ -27,7 +28,7 @@ struct Extent {
 }
 
 // A part of its writes: the first n of picture k's from pixel `from` on, so that its last pixel may lack some.
-#[derive(Drop)]
+#[derive(Clone, Copy)]
 struct Part {
     pub k: usize,
     pub from: usize,
@@ -35,7 +36,7 @@ struct Part {
 }
 
 // What a call answers: the number of its first fault and that fault's layer, or 0 and 0; the writes that it made; whether the job is finished.
-#[derive(Drop)]
+#[derive(Clone, Copy)]
 pub struct Answer {
     pub number: u64,
     pub layer: u64,

@@ -1,5 +1,6 @@
 // A layer as one value, the faults of its row and of a whole job's inputs (document 01, "Why a job is turned down", 1 to 8).
 // The definitions are in specs/, the limits in specs/Limits.
+#![tactic(auto)]
 mod cells; // cells.rt: the rows of the layer table and their numbers
 mod decode; // decode.rt: a layer from its row
 mod fault; // fault.rt: the faults of a row
@@ -12,7 +13,7 @@ use pictures::Shape;
 use places::Gravity;
 
 // Which channels a layer writes.
-#[derive(Drop)]
+#[derive(Clone, Copy)]
 pub struct ChannelMask {
     pub red: bool,
     pub green: bool,
@@ -21,7 +22,7 @@ pub struct ChannelMask {
 }
 
 // Where a layer's picture lies in the source samples, and its shape.
-#[derive(Drop)]
+#[derive(Clone, Copy)]
 pub struct Source {
     pub first: usize,
     pub width: usize,
@@ -30,7 +31,7 @@ pub struct Source {
 }
 
 // A layer's arguments, as words of binary32; those past the count are not read and stand as 0.
-#[derive(Drop)]
+#[derive(Clone, Copy)]
 pub struct Args {
     pub count: usize,
     pub a0: u32,
@@ -40,7 +41,7 @@ pub struct Args {
 }
 
 // The pixels of the destination that a layer may write (document 02, A.3).
-#[derive(Drop)]
+#[derive(Clone, Copy)]
 pub struct Window {
     pub left: usize,
     pub top: usize,
@@ -48,7 +49,7 @@ pub struct Window {
     pub height: usize,
 }
 
-#[derive(Drop)]
+#[derive(Clone, Copy)]
 pub struct Layer {
     pub op: CompositeOp,
     pub gravity: Gravity,
@@ -63,7 +64,7 @@ pub struct Layer {
 }
 
 // The number of a job's first fault and its layer, 0 where it has none.
-#[derive(Drop)]
+#[derive(Clone, Copy)]
 pub struct Verdict {
     pub number: u64,
     pub layer: u64,

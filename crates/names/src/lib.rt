@@ -1,5 +1,6 @@
 // The names of the operators: `from_name` (composite.rs 351 to 376) on bytes of any length.
 // The contracts cite specs/Names, the readable list of the names, and specs/Packed, how the code keeps them.
+#![tactic(auto)]
 ghost use Rattle.std.specs.Prelude.{◌≡◌, ◌+◌, ◌≤◌, length, get_or, take, drop};
 ghost use Rattle.lent.specs.Lent.{before};
 ghost use Rattle.names.specs.Names.{is_kept, lower, key_of, same, from_name};
@@ -15,14 +16,14 @@ const OPERATORS: usize = 70;
 const MOST_LETTERS: usize = 16;
 
 // What a name names: an operator, by its number; or nothing (fault 3, OPERATOR).
-#[derive(Drop)]
+#[derive(Clone, Copy)]
 pub enum Named {
     Operator(u64),
     Unknown,
 }
 
 // A place in the list of names.
-#[derive(Drop)]
+#[derive(Clone, Copy)]
 enum Place {
     At(usize),
     Nowhere,

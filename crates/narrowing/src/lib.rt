@@ -1,6 +1,7 @@
 // Narrowing: a picture of four channels, lent as words, into a lent output of one, three or four channels, as words or as bytes
 // (`to_channels`, `luma` and `narrow_u8` of deep.rs, `luma` with the weights of document 02). A call answers a number, and writes nothing where that is a fault's.
 // The contracts cite specs/Luma and specs/Narrow.
+#![tactic(auto)]
 ghost use Rattle.std.specs.Prelude.{◌≡◌, ◌*◌, ◌/◌, ◌<◌, length, get_or};
 ghost use Rattle.lent.specs.Lent.{before, after};
 ghost use Rattle.pictures.specs.Steps.{Channels};

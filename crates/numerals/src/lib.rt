@@ -1,19 +1,20 @@
 // Numbers of a text: decimal ones with a sign, and words of eight hexadecimal digits (document 02, A.2). A function is given just the bytes that must be the
 // number. The contracts cite specs/Digits and specs/Numbers.
+#![tactic(auto)]
 ghost use Rattle.std.specs.Prelude.{◌≡◌, ◌≤◌, length};
 ghost use Rattle.lent.specs.Lent.{before};
 ghost use Rattle.numerals.specs.Digits.{digit_of, number_in};
 ghost use Rattle.numerals.specs.Numbers.{unsigned_of, plus, minus, decimal_of, hex_of};
 
 // What a text says as an unsigned number.
-#[derive(Drop)]
+#[derive(Clone, Copy)]
 pub enum Number {
     Of(u64),
     Not,
 }
 
 // What a text says as a signed number.
-#[derive(Drop)]
+#[derive(Clone, Copy)]
 pub enum Integer {
     Of(i64),
     Not,

@@ -1,5 +1,6 @@
 // The 70 operators of `CompositeOp` (composite.rs 46 to 194): their numbers, their conventions, and what a number names.
 // The contracts cite specs/Operators and specs/Numbers, that of the match specs/Listed.
+#![tactic(auto)]
 ghost use Rattle.std.specs.Prelude.{◌≡◌};
 ghost use Rattle.operators.specs.Operators.{op_at, convention, is_map};
 ghost use Rattle.operators.specs.Numbers.{named, op_of};
@@ -7,7 +8,7 @@ ghost use Rattle.operators.specs.Numbers.{named, op_of};
 mod table;
 
 // A compositing operator, in the order of `CompositeOp::ALL`.
-#[derive(Drop)]
+#[derive(Clone, Copy)]
 pub enum CompositeOp {
     Over,
     In,
@@ -82,7 +83,7 @@ pub enum CompositeOp {
 }
 
 // How an operator combines its blend with the alphas, `Convention` (composite.rs 909 to 914); specs/Operators says which does how.
-#[derive(Drop)]
+#[derive(Clone, Copy)]
 pub enum Convention {
     Premult,
     Divided,
@@ -92,7 +93,7 @@ pub enum Convention {
 
 // What a number of a layer's row names: an operator that is carried; nothing (fault 3, OPERATOR);
 // or Interpolate or Blur, which are not carried (fault 4, CURVE).
-#[derive(Drop)]
+#[derive(Clone, Copy)]
 pub enum Numbered {
     Op(CompositeOp),
     Unknown,

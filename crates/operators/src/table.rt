@@ -4,7 +4,7 @@ ghost use Rattle.operators.specs.Listed.{ListedAt};
 use super::CompositeOp as O;
 
 // What stands at a number: an operator, or nothing.
-#[derive(Drop)]
+#[derive(Clone, Copy)]
 pub enum Listed {
     At(O),
     Past,

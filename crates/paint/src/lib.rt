@@ -1,6 +1,7 @@
 // `pixel` of composite.rs: one pixel of the source on one of the destination, for each operator. Its contract cites crates/pixels/specs/Pixel.antt.
 // The match chooses an operator's function; a mathematical operator names its convention, and itself for its blend. Interpolate is not carried;
 // Displace, Distort and Blur have composite.rs's line, and composition goes another way for them.
+#![tactic(auto)]
 ghost use Rattle.std.specs.Prelude.{◌≡◌};
 ghost use Rattle.pixels.specs.Pixel.{pixel_of};
 
@@ -10,7 +11,7 @@ use pixels::mathematical::{mathematical as math, modulus};
 use pixels::{Params, colours as c, porter_duff as pd};
 
 // A pixel, with the operator whose arm gave it: what an arm has to show is then of that operator alone, and needs no proof of its own.
-#[derive(Drop)]
+#[derive(Clone, Copy)]
 pub struct Arm(pub O, pub Rgba);
 
 // One pixel of the source on one of the destination, both straight RGBA.

@@ -1,6 +1,7 @@
 // Pictures as deep.rs has them, on lent words: one pixel widened to RGBA, runs of them, and the picture read
 // between its pixels.
 // A picture is a list of words (binary32 patterns), row by row, `channels` of them a pixel. The definitions are in specs/.
+#![tactic(auto)]
 pub mod bilinear; // bilinear.rt: the four neighbours of a place between pixels, and their mixture
 pub mod flat; // flat.rt: pixels written into a list of words
 pub mod shapes; // shapes.rt: a picture's sides and channels as a caller gives them, and which are accepted
@@ -8,7 +9,7 @@ pub mod weights; // weights.rt: how much each colour counts in a pixel's intensi
 pub mod widen; // widen.rt: `to_rgba` of one pixel
 
 // The four words of a pixel.
-#[derive(Drop)]
+#[derive(Clone, Copy)]
 pub struct Words {
     pub r: u32,
     pub g: u32,
@@ -17,7 +18,7 @@ pub struct Words {
 }
 
 // The four values of a pixel, straight alpha.
-#[derive(Drop)]
+#[derive(Clone, Copy)]
 pub struct Rgba {
     pub r: f32,
     pub g: f32,
@@ -26,7 +27,7 @@ pub struct Rgba {
 }
 
 // A picture's sides in pixels and its channels, as a caller gives them: any numbers.
-#[derive(Drop)]
+#[derive(Clone, Copy)]
 pub struct Shape {
     pub width: i64,
     pub height: i64,

@@ -16,7 +16,7 @@ use operators::{CompositeOp as O, Convention as By};
 use pictures::Rgba;
 
 // A blended channel, with the operator whose arm gave it.
-#[derive(Drop)]
+#[derive(Clone, Copy)]
 pub struct Blended(pub O, pub f32);
 
 fn blend_arm(op: O, p: Params, s: f32, d: f32) -> Blended

@@ -1,5 +1,6 @@
 // Where a source lands on the destination: the gravities of gravity_translate.rs, `placement` of composite.rs, and the
 // source's coordinate at a destination pixel. The contracts cite specs/Gravities, specs/Placement and specs/Indices.
+#![tactic(auto)]
 ghost use Rattle.std.specs.Prelude.{◌≡◌, ◌<◌, ◌≤◌, ℤ, pos, ◌+ℤ◌, ◌-ℤ◌};
 ghost use Rattle.std.specs.Int.Signed.{quot_z, mag};
 ghost use Rattle.places.specs.Bounds.{slack, reach, Under, Measured, Reached};
@@ -8,7 +9,7 @@ ghost use Rattle.places.specs.Placement.{start_of, placement_of};
 ghost use Rattle.places.specs.Indices.{rem_euclid, inside_of, axis_index, tiles, pixel_index, source_index};
 
 // The nine points of gravity_translate.rs; `Unset` is composite.rs's `None`. The order is that of their numbers.
-#[derive(Drop)]
+#[derive(Clone, Copy)]
 pub enum Gravity {
     Unset,
     NorthWest,
@@ -23,7 +24,7 @@ pub enum Gravity {
 }
 
 // Along one axis a source lies at the destination's near edge, in its middle, or at its far edge.
-#[derive(Drop)]
+#[derive(Clone, Copy)]
 pub enum Anchor {
     Near,
     Middle,
@@ -31,14 +32,14 @@ pub enum Anchor {
 }
 
 // The destination coordinates of a source's top left pixel.
-#[derive(Drop)]
+#[derive(Clone, Copy)]
 pub struct Corner {
     pub x: i64,
     pub y: i64,
 }
 
 // A coordinate, or a pixel's index, of the source; `Off` where the source has none.
-#[derive(Drop)]
+#[derive(Clone, Copy)]
 pub enum Index {
     At(usize),
     Off,

@@ -1,5 +1,6 @@
 // One spot of a job's finished picture without its pictures (document 02, A.6): from the top layer down, each layer asks the picture beneath for what it
 // needs, and one that takes all from its source asks for nothing. The contracts cite specs/Spots and Answers, and beneath the call Steps.
+#![tactic(auto)]
 pub mod spot; // spot.rt: the call
 mod checks; // checks.rt: the faults of a call
 mod colour; // colour.rt: the recursion on the layers, and the one function that reads the destination
@@ -10,7 +11,7 @@ use float_steps::axis::Axis;
 use pictures::Words;
 
 // What a pixel of a layer needs of the picture beneath.
-#[derive(Drop)]
+#[derive(Clone, Copy)]
 enum Needs {
     Kept, // the pixel as it is: the layer does not write it
     Nothing, // the layer takes all from its source
@@ -19,7 +20,7 @@ enum Needs {
 }
 
 // The numbers of a job without a fault, as natural ones.
-#[derive(Drop)]
+#[derive(Clone, Copy)]
 struct Sizes {
     pub width: usize,
     pub height: usize,
@@ -37,7 +38,7 @@ const ZEROS: Words = Words {
 
 // What a call answers: the number of its first fault and that fault's layer, or 0 and 0; the spot's colour, and how often a pixel of the destination was
 // read for it.
-#[derive(Drop)]
+#[derive(Clone, Copy)]
 pub struct Answer {
     pub number: u64,
     pub layer: u64,

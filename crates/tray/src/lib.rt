@@ -1,5 +1,6 @@
 // What a host links: the names, the cards, the single composition, narrowing and the job, for C and Rust. Each function hands its arguments on and has the
 // contract of what it calls. A picture is lent as its words, the binary32 patterns, so that a host passes its float buffer as it is.
+#![tactic(auto)]
 ghost use Rattle.std.specs.Prelude.{◌≡◌, cond, pos};
 ghost use Rattle.lent.specs.Lent.{before, after};
 ghost use Rattle.names.specs.Names.{from_name};

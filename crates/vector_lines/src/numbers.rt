@@ -8,20 +8,20 @@ ghost use Rattle.vector_lines.specs.Numbers.{integer_of, complement_of, signed_a
 use crate::NOWHERE;
 
 // A number and the place after it; 0 and NOWHERE where there is none.
-#[derive(Drop)]
+#[derive(Clone, Copy)]
 pub struct Unsigned {
     pub value: u64,
     pub next: usize,
 }
 
-#[derive(Drop)]
+#[derive(Clone, Copy)]
 pub struct Integer {
     pub value: i64,
     pub next: usize,
 }
 
 // How many numbers of a list follow, none after `=`, and the place where they start.
-#[derive(Drop)]
+#[derive(Clone, Copy)]
 pub struct Head {
     pub count: usize,
     pub next: usize,
