@@ -1,6 +1,6 @@
 -- What lines leave of lists of zeros is the table and the arguments of the card that was read. Assumes nothing.
 use mathlib.Core.Path.{◌≡◌, refl, sym, ap, ◌∙◌}
-use mathlib.Core.Bool.{Bool, true, false, cond, not, ◌&&◌, or_true}
+use mathlib.Core.Bool.{Bool, true, false, cond, not, ◌&&◌, or-true}
 use mathlib.Core.List.{List, [], ◌∷◌, ◌++◌, append_assoc, append-nil}
 use Prim.Native.Nat.{ℕ, suc, ◌+◌, ◌*◌, ◌-◌, ◌≤◌}
 use native.Mathlib.Omega.{arith}
@@ -98,7 +98,7 @@ last_cells c v vs h r =
 
 arguments_hole_lem : (c : ℕ) → eqb c arguments_hole ≡ true → is_hole c ≡ true
 unfolding is_hole
-arguments_hole_lem c a = rw (a, or_true (eqb c number_hole), or_true (eqb c name_hole))
+arguments_hole_lem c a = rw (a, or-true (eqb c number_hole), or-true (eqb c name_hole))
 
 other_cells : (c : ℕ) (v : Cell) (vs : List Cell) → eqb c arguments_hole ≡ false → is_cell c v ≡ true → Worded vs → Worded (v ∷ vs)
 other_cells c v vs a h r =
@@ -336,7 +336,7 @@ module _ (s : List ℕ) (table : List ℤ) (args : List ℕ) where
 
   pub args_other : (length args ≡ args_length → ⊥) → outcome (refusal 0) table args ≡ read_of s table args
   unfolding read_of
-  args_other h = rw (ne_eqb (length args) args_length h, or_true (not (eqb (length table) table_length)))
+  args_other h = rw (ne_eqb (length args) args_length h, or-true (not (eqb (length table) table_length)))
 
   pub lengths_right : length table ≡ table_length → length args ≡ args_length → outcome_of (read_card s) table args ≡ read_of s table args
   unfolding read_of

@@ -4,7 +4,7 @@ ghost use Rattle.lent.specs.Lent.{before, after};
 
 pub fn copy_numbers(from: &[i64], to: &mut [i64])
     requires { length from.now ≡ length to.old }
-    ensures { after to ≡ before from }
+    ensures { after to ≡ from.now }
 {
     let mut i = 0;
     while i < from.len() {
@@ -15,7 +15,7 @@ pub fn copy_numbers(from: &[i64], to: &mut [i64])
 
 pub fn copy_words(from: &[u32], to: &mut [u32])
     requires { length from.now ≡ length to.old }
-    ensures { after to ≡ before from }
+    ensures { after to ≡ from.now }
 {
     let mut i = 0;
     while i < from.len() {

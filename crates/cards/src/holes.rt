@@ -37,7 +37,7 @@ fn is_letter(b: u8) -> bool
 }
 
 fn are_letters(s: &[u8]) -> bool
-    ensures { result ≡ are_letters (before s) }
+    ensures { result ≡ are_letters s.now }
 {
     let mut i = 0;
     while i < s.len() {
@@ -52,7 +52,7 @@ fn are_letters(s: &[u8]) -> bool
 
 // The number of the operator whose name a word is, letter for letter: `from_name` drops and lowers nothing of a word of small letters.
 fn name(s: &[u8]) -> Integer
-    ensures { result ≡ column (named (before s) (lookup (before s) entries)) }
+    ensures { result ≡ column (named s.now (lookup s.now entries)) }
 {
     if are_letters(s) {
         return match names::from_name(s) {
@@ -65,7 +65,7 @@ fn name(s: &[u8]) -> Integer
 
 // The number that a word has in a hole for a name or for a number.
 fn value(c: u8, s: &[u8]) -> Integer
-    ensures { result ≡ column (cell_of c (before s)) }
+    ensures { result ≡ column (cell_of c s.now) }
 {
     if c == b'N' {
         return name(s);
@@ -85,7 +85,7 @@ fn is_end(b: u8) -> bool
 
 // How many bytes the word has with which a text begins.
 fn word_length(s: &[u8]) -> usize
-    ensures { result ≡ length (word_of (before s)) }
+    ensures { result ≡ length (word_of s.now) }
 {
     let mut i = 0;
     while i < s.len() {
@@ -110,8 +110,8 @@ fn out_of_form() -> Part
 // A word in a hole for a name or for a number.
 fn word(s: &[u8], at: usize, c: u8) -> Part
     requires { at ≤ length s.now }
-    ensures apart { Apart result (before s) (read_word c (drop at (before s))) }
-    ensures next_in_bounds { result.next ≤ length (before s) }
+    ensures apart { Apart result s.now (read_word c (drop at s.now)) }
+    ensures next_in_bounds { result.next ≤ length s.now }
 {
     let t = &s[at..];
     let n = word_length(t);
@@ -127,7 +127,7 @@ fn word(s: &[u8], at: usize, c: u8) -> Part
 
 // Whether a byte stands at a place of a text.
 fn stands(s: &[u8], at: usize, c: u8) -> bool
-    ensures { result ≡ begins c (drop at (before s)) }
+    ensures { result ≡ begins c (drop at s.now) }
 {
     if at < s.len() {
         return s[at] == c;
@@ -137,8 +137,8 @@ fn stands(s: &[u8], at: usize, c: u8) -> bool
 
 // A byte that the form names.
 fn byte(s: &[u8], at: usize, c: u8) -> Part
-    ensures apart { Apart result (before s) (read_byte c (drop at (before s))) }
-    ensures next_in_bounds { result.next ≤ length (before s) }
+    ensures apart { Apart result s.now (read_byte c (drop at s.now)) }
+    ensures next_in_bounds { result.next ≤ length s.now }
 {
     if stands(s, at, c) {
         return Part {
@@ -163,7 +163,7 @@ fn given_as(more: bool, good: bool, word: u32, next: usize) -> Given
 
 // What stands where an argument may stand.
 fn argument(s: &[u8], at: usize) -> Given
-    ensures { (argument_by result (before s) ≡ read_argument (drop at (before s))) × (result.next ≤ length (before s)) }
+    ensures { (argument_by result s.now ≡ read_argument (drop at s.now)) × (result.next ≤ length s.now) }
 {
     if !stands(s, at, b' ') {
         return given_as(false, false, 0, 0);
@@ -180,8 +180,8 @@ fn argument(s: &[u8], at: usize) -> Given
 // The arguments: at most four words, each after a space, which go to the list from place w on.
 fn arguments(s: &[u8], at: usize, args: &mut [u32], w: usize) -> Part
     requires { (at ≤ length s.now) × (w + arg_words ≤ length args.old) }
-    ensures args_value { found_by result (before s) (after args) ≡ found_in (before args) w (as_arguments (read_words arg_words (drop at (before s)))) }
-    ensures next_in_bounds { (result.next ≤ length (before s)) × (length (after args) ≡ length (before args)) }
+    ensures args_value { found_by result s.now (after args) ≡ found_in (before args) w (as_arguments (read_words arg_words (drop at s.now))) }
+    ensures next_in_bounds { (result.next ≤ length s.now) × (length (after args) ≡ length (before args)) }
 {
     let mut next = at;
     let mut k = 0;
@@ -211,8 +211,8 @@ fn arguments(s: &[u8], at: usize, args: &mut [u32], w: usize) -> Part
 // One byte of a form.
 pub fn one(s: &[u8], at: usize, c: u8, args: &mut [u32], w: usize) -> Part
     requires { (at ≤ length s.now) × (w + arg_words ≤ length args.old) }
-    ensures args_value { found_by result (before s) (after args) ≡ found_in (before args) w (read_one c (drop at (before s))) }
-    ensures next_in_bounds { (result.next ≤ length (before s)) × (length (after args) ≡ length (before args)) }
+    ensures args_value { found_by result s.now (after args) ≡ found_in (before args) w (read_one c (drop at s.now)) }
+    ensures next_in_bounds { (result.next ≤ length s.now) × (length (after args) ≡ length (before args)) }
 {
     if c == b'N' {
         return word(s, at, c);

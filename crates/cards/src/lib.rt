@@ -53,7 +53,7 @@ fn refused(line: u64) -> Answer
 // The layers' lines from a place of the text on: where all are in form and none is too many, they fill the lists.
 fn layers(text: &[u8], from: usize, table: &mut [i64], args: &mut [u32]) -> Count
     requires { (from ≤ length text.now) × (length table.old ≡ table_length) × (length args.old ≡ args_length) }
-    ensures { written result (after table) (after args) ≡ written_of (read_lines layer_form most_layers 2 (drop from (before text))) (before table) (before args) }
+    ensures { written result (after table) (after args) ≡ written_of (read_lines layer_form most_layers 2 (drop from text.now)) (before table) (before args) }
 {
     let mut rows = [0i64; TABLE];
     let mut words = [0u32; ARGS];
@@ -70,7 +70,7 @@ fn layers(text: &[u8], from: usize, table: &mut [i64], args: &mut [u32]) -> Coun
 // The card that a text is, read into lists of the right lengths.
 fn read_lines(text: &[u8], table: &mut [i64], args: &mut [u32]) -> Answer
     requires { (length table.old ≡ table_length) × (length args.old ≡ args_length) }
-    ensures { outcome result (after table) (after args) ≡ outcome_of (read_card (before text)) (before table) (before args) }
+    ensures { outcome result (after table) (after args) ≡ outcome_of (read_card text.now) (before table) (before args) }
 {
     let mut tray = [0i64; 3];
     let Next::At(second) = tray_line(text, &mut tray) else {
@@ -91,7 +91,7 @@ fn read_lines(text: &[u8], table: &mut [i64], args: &mut [u32]) -> Answer
 
 // The card that a text is, read into the layer table and the arguments.
 pub fn read(text: &[u8], table: &mut [i64], args: &mut [u32]) -> Answer
-    ensures { outcome result (after table) (after args) ≡ read_of (before text) (before table) (before args) }
+    ensures { outcome result (after table) (after args) ≡ read_of text.now (before table) (before args) }
 {
     if table.len() != TABLE {
         return refused(0);

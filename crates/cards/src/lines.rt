@@ -48,8 +48,8 @@ fn scan(
     w: usize,
 ) -> Next
     requires { (from ≤ length s.now) × (n + holes form.now ≤ length table.old) × (w + arg_words ≤ length args.old) }
-    ensures args_value { filled_by result (before s) (after table) (after args) ≡ filled_in (before table) n (before args) w (read_form (before form) (drop from (before s))) }
-    ensures result_in_bounds { (reach result ≤ length (before s)) × (length (after table) ≡ length (before table)) × (length (after args) ≡ length (before args)) }
+    ensures args_value { filled_by result s.now (after table) (after args) ≡ filled_in (before table) n (before args) w (read_form form.now (drop from s.now)) }
+    ensures result_in_bounds { (reach result ≤ length s.now) × (length (after table) ≡ length (before table)) × (length (after args) ≡ length (before args)) }
 {
     let mut at = from;
     let mut k = n;
@@ -92,7 +92,7 @@ fn lines(
 ) -> Count
     requires from_in_bounds { (from ≤ length s.now) × (holes form.now ≡ at_left) }
     requires columns_in_bounds { (most * columns ≤ length table.old) × (most * arg_words ≤ length args.old) }
-    ensures args_value { counted_by result (after table) (after args) ≡ counted_in (before table) (before args) 0 (read_lines (before form) most 2 (drop from (before s))) }
+    ensures args_value { counted_by result (after table) (after args) ≡ counted_in (before table) (before args) 0 (read_lines form.now most 2 (drop from s.now)) }
     ensures table_len { (length (after table) ≡ length (before table)) × (length (after args) ≡ length (before args)) }
 {
     let mut at = from;
@@ -116,8 +116,8 @@ fn lines(
 // The tray's line: its numbers go to the row.
 pub fn tray_line(s: &[u8], row: &mut [i64]) -> Next
     requires { length row.old ≡ 3 }
-    ensures row_value { row_by result (before s) (after row) ≡ row_in (before row) (read_form tray_form (before s)) }
-    ensures result_in_bounds { (reach result ≤ length (before s)) × (length (after row) ≡ length (before row)) }
+    ensures row_value { row_by result s.now (after row) ≡ row_in (before row) (read_form tray_form s.now) }
+    ensures result_in_bounds { (reach result ≤ length s.now) × (length (after row) ≡ length (before row)) }
 {
     let form = b"(tray 1 D D D)\n";
     let mut none = [0u32; Layer::ARGS];
@@ -127,7 +127,7 @@ pub fn tray_line(s: &[u8], row: &mut [i64]) -> Next
 // The layers' lines, from a place of the text on.
 pub fn layer_lines(s: &[u8], from: usize, table: &mut [i64], args: &mut [u32]) -> Count
     requires { (from ≤ length s.now) × (length table.old ≡ table_length) × (length args.old ≡ args_length) }
-    ensures args_value { counted_by result (after table) (after args) ≡ counted_in (before table) (before args) 0 (read_lines layer_form most_layers 2 (drop from (before s))) }
+    ensures args_value { counted_by result (after table) (after args) ≡ counted_in (before table) (before args) 0 (read_lines layer_form most_layers 2 (drop from s.now)) }
     ensures table_len { (length (after table) ≡ length (before table)) × (length (after args) ≡ length (before args)) }
 {
     let form = b"(layer N (place D D D) (flags D) (source D D D D) (argsA))\n";

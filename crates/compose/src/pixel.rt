@@ -42,7 +42,7 @@ pub fn covers(p: Plan, index: Index, x: usize, y: usize) -> bool
 // The source's pixel at an index; off the source (0, 0, 0, 0).
 pub fn source_pixel(p: Plan, source: &[u32], index: Index) -> Rgba
     requires { (Ready p (length source.now)) × (Under (p.width * p.height) index) }
-    ensures { result ≡ source_pixel (before source) p.channels index }
+    ensures { result ≡ source_pixel source.now p.channels index }
 {
     match index {
         Index::At(n) => values(rgba_at(source, p.channels, n)),
@@ -76,7 +76,7 @@ pub fn map_axis(displace: bool, at: usize, v: f32, by: f32, side: usize) -> Axis
 // A map's result: where it reads, the four neighbours there, and their mixture.
 fn mapped(p: Plan, picture: &[u32], channels: usize, s: Rgba, x: usize, y: usize) -> Rgba
     requires { (Picture p.dw p.dh channels (length picture.now)) × (x < p.dw) × (y < p.dh) }
-    ensures { result ≡ mapped_by p (values_at (before picture) channels) s x y }
+    ensures { result ≡ mapped_by p (values_at picture.now channels) s x y }
 {
     let column = map_axis(p.displace, x, s.r, p.params.a, p.dw);
     let row = map_axis(p.displace, y, s.g, p.params.b, p.dh);
@@ -95,7 +95,7 @@ fn painted(p: Plan, s: Rgba, d: Rgba) -> Rgba
 
 fn result(p: Plan, picture: &[u32], channels: usize, s: Rgba, d: Rgba, x: usize, y: usize) -> Rgba
     requires { Beneath p (length picture.now) channels x y }
-    ensures { result ≡ result_by p (values_at (before picture) channels) s d x y }
+    ensures { result ≡ result_by p (values_at picture.now channels) s d x y }
 {
     if p.map {
         return mapped(p, picture, channels, s, x, y);
@@ -135,7 +135,7 @@ pub fn composed(
     y: usize,
 ) -> Words
     requires { (Ready p (length source.now)) × (Beneath p (length picture.now) channels x y) }
-    ensures { result ≡ composed_by p (before source) (values_at (before picture) channels) own x y }
+    ensures { result ≡ composed_by p source.now (values_at picture.now channels) own x y }
 {
     if !in_window(p, x, y) {
         return own;

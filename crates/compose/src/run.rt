@@ -42,7 +42,7 @@ pub fn run(
         × (4 * count ≤ length beneath.now)
         × (4 * count ≤ length out.old) }
     ensures { after out
-        ≡ filled (pixels_from p (before source) (values_at (before picture) channels) (rgba_at (before beneath) 4) from)
+        ≡ filled (pixels_from p source.now (values_at picture.now channels) (rgba_at beneath.now 4) from)
         count (before out) }
 {
     if count == 0 {
@@ -70,7 +70,7 @@ pub fn span(p: Plan, source: &[u32], picture: &[u32], from: usize, count: usize,
         × (Span p (length picture.now) 4 from count)
         × (4 * count ≤ length out.old) }
     ensures { after out
-        ≡ filled (λ i. pixel_on p (before source) (rgba_at (before picture) 4) (from + i)) count (before out) }
+        ≡ filled (λ i. pixel_on p source.now (rgba_at picture.now 4) (from + i)) count (before out) }
 {
     let at = 4 * from;
     run(p, source, picture, 4, &picture[at..], from, count, out);

@@ -25,7 +25,7 @@ fn spans(p: Plan, source: &[u32], dst: &[u32], channels: usize, total: usize, ou
     requires { (Ready p (length source.now))
         × (Span p (length dst.now) channels 0 total)
         × (length out.old ≡ 4 * total) }
-    ensures { after out ≡ flat (pixel_on p (before source) (rgba_at (before dst) channels)) 0 total }
+    ensures { after out ≡ flat (pixel_on p source.now (rgba_at dst.now channels)) 0 total }
 {
     let mut own = [0u32; 4 * SPAN];
     let mut j = 0;
@@ -51,7 +51,7 @@ fn whole(
     requires { (GoodLayer (length samples.now) l)
         × (Picture dw dh channels (length dst.now))
         × (length out.old ≡ 4 * (dw * dh)) }
-    ensures { after out ≡ composed_of (before samples) l dw dh channels (before dst) }
+    ensures { after out ≡ composed_of samples.now l dw dh channels dst.now }
 {
     let p = plan(l, dw, dh);
     let source = source_of(samples, l);

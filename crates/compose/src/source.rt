@@ -8,7 +8,7 @@ use layers::Layer;
 
 pub fn source_of(samples: &[u32], l: Layer) -> &[u32]
     requires { GoodLayer (length samples.now) l }
-    ensures { (result.now ≡ source_of (before samples) l.source)
+    ensures { (result.now ≡ source_of samples.now l.source)
         × (length result.now ≡ l.source.width * l.source.height * l.source.channels) }
 {
     let source = l.source;

@@ -1,6 +1,6 @@
 -- `sqrt_of` where no root is made: of a zero, of plus infinity, of a NaN and of what is below zero; and the words of the values above zero. Assumes nothing.
 use Rattle.std.proofs.Common.{◌≡◌, ℕ, zero, suc, ◌+◌, ◌*◌, ◌/◌, ◌%◌, ◌^◌, ◌<◌, ◌≤◌, Bool, true, false, cond, ◌&&◌, ◌||◌, T, eqb, leb, ℤ, pos, sym, refl, ap, ◌∙◌, subst, inl, inr, true≢false, le_trans, le_of_eq, mod-eq_of_lt, eq-zero-or-pos, mul-pos, lt_of_not-le, zero-mul, mul-one, arith, le→leb, eqb→eq, ltb-false, eq-eqb, ne_eqb}
-use mathlib.Core.Bool.{beq, or_true}
+use mathlib.Core.Bool.{beq, or-true}
 use lib.Arith.{lt_of_le-ne}
 use lib.Ieee.{Float, nan, inf, fin, binary32, up, down, odd, of_fields, of_bits, to_bits, fits, lt, eq}
 use lib.Ieee.Fits.{up_pos, and_l}
@@ -36,7 +36,7 @@ is_nought : (s : Bool) (m : ℕ) (e : ℤ) → m ≡ 0 → eq (fin s m e) nought
 unfolding eq
 is_nought s m e z =
     let a : m * up e * 1 ≡ 0 = mul-one (m * up e) ∙ ap (λ (y : ℕ). y * up e) z ∙ zero-mul (up e) in
-    ap (λ (y : ℕ). eqb y (0 * down e) && (beq s false || eqb y 0)) a ∙ ap (λ (y : ℕ). eqb 0 y && (beq s false || true)) (zero-mul (down e)) ∙ or_true (beq s false)
+    ap (λ (y : ℕ). eqb y (0 * down e) && (beq s false || eqb y 0)) a ∙ ap (λ (y : ℕ). eqb 0 y && (beq s false || true)) (zero-mul (down e)) ∙ or-true (beq s false)
 
 pub sqrt_nan : (v : Float) → lt nought v ≡ false → eq v nought ≡ false → nan ≡ sqrt_of v
 unfolding lt sqrt_of

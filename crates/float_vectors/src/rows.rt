@@ -13,7 +13,7 @@ const WORD: u64 = 0xffff_ffff;
 
 // The place after a row's result, or NOWHERE where the row is malformed or its step gives another.
 fn taken(row: &[u8]) -> usize
-    ensures { result ≡ taken_at (before row) }
+    ensures { result ≡ taken_at row.now }
 {
     let letter = first(row);
     if letter < b'a' {
@@ -36,7 +36,7 @@ fn taken(row: &[u8]) -> usize
 
 // Runs the step of each row, and keeps where its answer ends.
 fn replay(text: &[u8], places: &mut [usize])
-    ensures { after places ≡ places_of taken_at 0 (lines_of (before text)) (before places) }
+    ensures { after places ≡ places_of taken_at 0 (lines_of text.now) (before places) }
 {
     let mut i: usize = 0;
     let mut from: usize = 0;
@@ -58,8 +58,8 @@ pub fn judge(
     right: &mut [u64],
     wrong: &mut [u64],
 ) -> u64
-    ensures { let rows = lines_of (before text) in counts_left right wrong result
-        ≡ lines_counted (before kinds) (places_of taken_at 0 rows (before places)) 0 rows (counts_found right wrong 0) }
+    ensures { let rows = lines_of text.now in counts_left right wrong result
+        ≡ lines_counted kinds.now (places_of taken_at 0 rows (before places)) 0 rows (counts_found right wrong 0) }
 {
     replay(text, places);
     count_lines(text, places, kinds, right, wrong)

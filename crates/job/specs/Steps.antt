@@ -1,7 +1,7 @@
 -- What the functions between a call and `store` ask, and what they leave. Definitions only.
 use Rattle.std.specs.Prelude.{◌≡◌, List, ℕ, ◌+◌, ◌*◌, ◌/◌, ◌%◌, ◌<◌, ◌≤◌, ℤ, pos, length}
 use Rattle.std.specs.Borrow.{Bor}
-use Rattle.lent.specs.Lent.{Lent, before}
+use Rattle.lent.specs.Lent.{Shown}
 use Rattle.faults.specs.Faults.{NONE}
 use Rattle.layers.specs.Inputs.{inputs_of, job_fault}
 use Rattle.pictures.specs.Shapes.{shape_of}
@@ -36,8 +36,8 @@ held_batch e dst table args samples = batch_by e dst.now table.now args.now samp
 -- ---- writes
 
 -- those of an accepted call, by a function's parameters, in an `ensures`
-abbrev pub lent_batch : Extent → (dst : Lent (List ℕ)) → (table : Lent (List ℤ)) → (args samples : Lent (List ℕ)) → Batch
-lent_batch e dst table args samples = batch_by e (before dst) (before table) (before args) (before samples)
+abbrev pub lent_batch : Extent → (dst : Shown (List ℕ)) → (table : Shown (List ℤ)) → (args samples : Shown (List ℕ)) → Batch
+lent_batch e dst table args samples = batch_by e dst.entry.now table.entry.now args.entry.now samples.entry.now
 
 -- A part's writes are the next: of its first pixel none has been made.
 pub record NextPart (b : Batch) (uses : ℕ) (p : Part) (m : Mem) : Type 0 where

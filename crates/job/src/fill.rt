@@ -27,7 +27,7 @@ pub fn fill(
     out: &mut [u32],
 )
     requires { (Fillable (held_batch extent dst table args samples) part work0.now work1.now) × (4 * pixels_of part ≤ length out.old) }
-    ensures { let pixel = phase_pixel (lent_batch extent dst table args samples).inputs (mem_of (before work0) (before work1) []) part.k in
+    ensures { let pixel = phase_pixel (lent_batch extent dst table args samples).inputs (mem_of work0.now work1.now []) part.k in
         after out ≡ filled (λ x. pixel (part.from + x)) (pixels_of part) (before out) }
 {
     let count = (part.n + 4) / 5;

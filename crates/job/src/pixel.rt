@@ -11,7 +11,7 @@ use crate::{Extent, Part, Write};
 // Write c of the five of pixel j of picture k, whose words are pixel x of the buffer: red, green, blue, alpha, then the position, raised by one.
 fn write_of(k: usize, j: usize, buf: &[u32], x: usize, c: usize, position: u64) -> Write
     requires { (c < 5) × (c < 4 → 4 * x + c < length buf.now) × (4 * j < most_position) × (position < most_position) }
-    ensures { result ≡ write_of k j (rgba_at (before buf) 4 x) (position + 1) c }
+    ensures { result ≡ write_of k j (rgba_at buf.now 4 x) (position + 1) c }
 {
     if c == 4 {
         return Write::Checkpoint {

@@ -1,7 +1,7 @@
 -- A job's inputs and their first fault: document 01's checks 1 and 2, then 3 to 8 and document 02's 13 layer by layer. The checks of the memory
 -- that a job is lent, 9 and 10, are not here.
 use Rattle.std.specs.Prelude.{Bool, cond, not, ◌||◌, List, ℕ, zero, suc, ◌*◌, eqb, ℤ, pos, length}
-use Rattle.lent.specs.Lent.{Lent, before}
+use Rattle.lent.specs.Lent.{Shown}
 use Rattle.faults.specs.Faults.{NONE, STACK, TRAY}
 use Rattle.pictures.specs.declared.Shape.{Shape}
 use Rattle.pictures.specs.Shapes.{nat_of, outside_z, bad_shape, sample_count}
@@ -24,8 +24,8 @@ abbrev pub inputs_of : Shape → List ℕ → ℤ → List ℤ → List ℕ → 
 inputs_of shape dst count table args samples = record { shape = shape; dst = dst; count = count; table = table; args = args; samples = samples }
 
 -- the same by a function's parameters, as an `ensures` names them
-abbrev pub inputs : Shape → (dst : Lent (List ℕ)) → (count : ℤ) → (table : Lent (List ℤ)) → (args samples : Lent (List ℕ)) → Inputs
-inputs shape dst count table args samples = inputs_of shape (before dst) count (before table) (before args) (before samples)
+abbrev pub inputs : Shape → (dst : Shown (List ℕ)) → (count : ℤ) → (table : Shown (List ℤ)) → (args samples : Shown (List ℕ)) → Inputs
+inputs shape dst count table args samples = inputs_of shape dst.entry.now count table.entry.now args.entry.now samples.entry.now
 
 -- a fault's number and its layer
 abbrev pub verdict : ℕ → ℕ → Verdict

@@ -35,7 +35,7 @@ impl Source {
     // The source that a row names.
     fn of(row: &[i64]) -> Source
         requires { length row.now ≡ columns }
-        ensures { result ≡ source_in (before row) }
+        ensures { result ≡ source_in row.now }
     {
         Source {
             first: natural_at(row, Layer::AT_FIRST),
@@ -49,7 +49,7 @@ impl Source {
 // Argument i of a layer's words, 0 where it is past the count.
 fn arg(words: &[u32], count: usize, i: usize) -> u32
     requires { i < length words.now }
-    ensures { result ≡ arg_of (before words) count i }
+    ensures { result ≡ arg_of words.now count i }
 {
     if i < count {
         return words[i];
@@ -61,7 +61,7 @@ impl Args {
     // A layer's words, of which so many are read.
     fn of(words: &[u32], count: usize) -> Args
         requires { length words.now ≡ arg_words }
-        ensures { result ≡ args_of (before words) count }
+        ensures { result ≡ args_of words.now count }
     {
         Args {
             count: count,
@@ -77,7 +77,7 @@ impl Layer {
     // A layer from its row, any row, and the words of its arguments: `fault` tells whether the row's numbers are in their ranges.
     pub fn of(row: &[i64], words: &[u32]) -> Layer
         requires { (length row.now ≡ columns) × (length words.now ≡ arg_words) }
-        ensures { result ≡ layer_of (before row) (before words) }
+        ensures { result ≡ layer_of row.now words.now }
     {
         let op = CompositeOp::at(natural_at(row, Self::AT_OPERATOR));
         let gravity = Gravity::from_number(natural_at(row, Self::AT_GRAVITY) as u64);
@@ -102,7 +102,7 @@ impl Layer {
     // Layer k of a job.
     pub fn at(table: &[i64], args: &[u32], k: usize) -> Layer
         requires { (k * columns + columns ≤ length table.now) × (k * arg_words + arg_words ≤ length args.now) }
-        ensures { result ≡ layer_at (before table) (before args) k }
+        ensures { result ≡ layer_at table.now args.now k }
     {
         Self::of(row_at(table, k), words_at(args, k))
     }

@@ -17,7 +17,7 @@ use places::Gravity;
 // The fault of what a row's operator names.
 fn operator_fault(row: &[i64]) -> u64
     requires { length row.now ≡ columns }
-    ensures { result ≡ op_fault (op_of (cell_of (before row) at_operator)) }
+    ensures { result ≡ op_fault (op_of (cell_of row.now at_operator)) }
 {
     match CompositeOp::from_number(cell(row, Layer::AT_OPERATOR)) {
         Numbered::Op(_) => Fault::NONE,
@@ -29,7 +29,7 @@ fn operator_fault(row: &[i64]) -> u64
 // Whether the gravity or an offset is out of its range.
 fn bad_placing(row: &[i64]) -> bool
     requires { length row.now ≡ columns }
-    ensures { result ≡ bad_placing (before row) }
+    ensures { result ≡ bad_placing row.now }
 {
     if outside_at(row, Layer::AT_GRAVITY, 0, Gravity::LAST as i64) {
         return true;
@@ -43,7 +43,7 @@ fn bad_placing(row: &[i64]) -> bool
 // The shape of the source, as a row gives it.
 fn source_shape(row: &[i64]) -> Shape
     requires { length row.now ≡ columns }
-    ensures { result ≡ source_shape (before row) }
+    ensures { result ≡ source_shape row.now }
 {
     Shape {
         width: cell(row, Layer::AT_WIDTH),
@@ -55,7 +55,7 @@ fn source_shape(row: &[i64]) -> Shape
 // Whether a row's source has a start, a side or channels out of their range, or does not lie in so many samples.
 fn bad_source(row: &[i64], samples: usize) -> bool
     requires { length row.now ≡ columns }
-    ensures { result ≡ bad_source (before row) samples }
+    ensures { result ≡ bad_source row.now samples }
 {
     let first = cell(row, Layer::AT_FIRST);
     if first < 0 {
@@ -71,7 +71,7 @@ fn bad_source(row: &[i64], samples: usize) -> bool
 // Whether a number of a row's window is out of its range.
 fn bad_window(row: &[i64]) -> bool
     requires { length row.now ≡ columns }
-    ensures { result ≡ bad_window (before row) }
+    ensures { result ≡ bad_window row.now }
 {
     if outside_at(row, Layer::AT_LEFT, 0, Layer::WINDOW) {
         return true;
@@ -89,7 +89,7 @@ impl Layer {
     // The number of a row's first fault, or NONE.
     pub fn fault(row: &[i64], samples: usize) -> u64
         requires { length row.now ≡ columns }
-        ensures { result ≡ layer_fault (before row) samples }
+        ensures { result ≡ layer_fault row.now samples }
     {
         let operator = operator_fault(row);
         let placing = bad_placing(row);

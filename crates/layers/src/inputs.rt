@@ -37,7 +37,7 @@ fn bad_dst(shape: Shape, dst: usize) -> bool
 // The first fault of so many rows, with its row; NONE and 0 where there is none.
 fn rows_fault(table: &[i64], layers: usize, samples: usize) -> Verdict
     requires { layers * columns ≤ length table.now }
-    ensures { result ≡ rows_fault (before table) samples 0 layers }
+    ensures { result ≡ rows_fault table.now samples 0 layers }
 {
     let mut k = 0;
     while k < layers {

@@ -21,7 +21,7 @@ impl Window {
     // The window that a row names.
     pub fn of(row: &[i64]) -> Window
         requires { length row.now ≡ columns }
-        ensures { result ≡ window_in (before row) }
+        ensures { result ≡ window_in row.now }
     {
         Window {
             left: natural_at(row, Layer::AT_LEFT),

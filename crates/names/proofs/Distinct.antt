@@ -1,7 +1,7 @@
 -- No two of the 83 names read the same, so that each stands once in the list; and each is read as its operator: two tests computed over the names, and what
 -- they say of the entries. Assumes nothing.
 use mathlib.Core.Path.{◌≡◌, refl, sym, ap, ◌∙◌}
-use mathlib.Core.Bool.{Bool, true, false, not, ◌&&◌, ◌||◌, or_true}
+use mathlib.Core.Bool.{Bool, true, false, not, ◌&&◌, ◌||◌, or-true}
 use mathlib.Core.List.{List, [], ◌∷◌, map}
 use Prim.Native.Nat.{ℕ, zero, suc, ◌<◌}
 use native.Mathlib.Omega.{arith}
@@ -34,7 +34,7 @@ same_refl (b ∷ w) = rw (eq-eqb b b refl, same_refl w)
 among_at : (x : List ℕ) (ws : List (List ℕ)) (j : ℕ) → j < length ws → x ≡ get_or ws j [] → among x ws ≡ true
 among_at x [] j h e = absurd (omega arith)
 among_at x (w ∷ ws) zero h e = rw (e, same_refl w)
-among_at x (w ∷ ws) (suc j) h e = rw (among_at x ws j (omega arith) e) (or_true (same x w))
+among_at x (w ∷ ws) (suc j) h e = rw (among_at x ws j (omega arith) e) (or-true (same x w))
 
 apart : (w : List ℕ) (ws : List (List ℕ)) (j : ℕ) → T (distinct (w ∷ ws)) → j < length ws → w ≡ get_or ws j [] → ⊥
 apart w ws j t h e = T_not (among w ws) (and_l (not (among w ws)) (distinct ws) t) (rw (among_at w ws j h e) tt)

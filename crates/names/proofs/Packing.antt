@@ -1,6 +1,6 @@
 -- The names end to end: one step of the search through them. Assumes nothing.
 use mathlib.Core.Path.{◌≡◌, refl, ap}
-use mathlib.Core.Bool.{true, false, and_false}
+use mathlib.Core.Bool.{true, false, and-false}
 use mathlib.Core.List.{List, [], ◌∷◌}
 use Prim.Native.Nat.{ℕ, zero, suc, ◌+◌, ◌<◌, ◌≤◌}
 use native.Mathlib.Numerals.{add-one}
@@ -22,7 +22,7 @@ differ : (x w : List ℕ) → (length x ≡ length w → ⊥) → same x w ≡ f
 differ [] [] d = absurd (d refl)
 differ [] (b ∷ w) d = refl
 differ (a ∷ x) [] d = refl
-differ (a ∷ x) (b ∷ w) d = rw (differ x w (λ e. d (ap suc e))) (and_false (eqb a b))
+differ (a ∷ x) (b ∷ w) d = rw (differ x w (λ e. d (ap suc e))) (and-false (eqb a b))
 
 -- the first m bytes of a list that are fewer than m are all of it
 fewer : (m : ℕ) (x : List ℕ) → length (take m x) < m → length (take m x) ≡ length x

@@ -56,7 +56,7 @@ fn lowered(b: u8) -> u8
 
 // How many bytes of a text count, up to one more than the longest name has. The compiler would write a loop without that end out four times.
 fn key_length(s: &[u8]) -> usize
-    ensures { result ≡ length (take (most_letters + 1) (key_of (before s))) }
+    ensures { result ≡ length (take (most_letters + 1) (key_of s.now)) }
 {
     let mut n = 0;
     let mut i = 0;
@@ -75,7 +75,7 @@ fn key_length(s: &[u8]) -> usize
 // Whether a text reads as the letters from a place on, as many as count of it.
 fn reads_at(s: &[u8], at: usize) -> bool
     requires { at + length (key_of s.now) ≤ length letters }
-    ensures { result ≡ same (key_of (before s)) (take (length (key_of (before s))) (drop at letters)) }
+    ensures { result ≡ same (key_of s.now) (take (length (key_of s.now)) (drop at letters)) }
 {
     let mut j = at;
     let mut i = 0;
@@ -94,7 +94,7 @@ fn reads_at(s: &[u8], at: usize) -> bool
 
 // The place of the first name that a text reads as. Only a name of its length can be that name.
 fn find(s: &[u8]) -> Place
-    ensures { result ≡ place_from 0 (key_of (before s)) (cut lengths letters) }
+    ensures { result ≡ place_from 0 (key_of s.now) (cut lengths letters) }
 {
     let n = key_length(s);
     let mut at = 0;
@@ -124,7 +124,7 @@ fn number(k: usize) -> u64
 
 // What a text names.
 pub fn from_name(s: &[u8]) -> Named
-    ensures { result ≡ from_name (before s) }
+    ensures { result ≡ from_name s.now }
 {
     match find(s) {
         Place::At(k) => Named::Operator(number(k)),

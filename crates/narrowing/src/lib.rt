@@ -29,7 +29,7 @@ pub fn luma(p: Rgba) -> f32
 // A word that is kept, with all its bits.
 fn kept(input: &[u32], at: usize) -> u32
     requires { at < length input.now }
-    ensures { result ≡ get_or (before input) at 0 }
+    ensures { result ≡ get_or input.now at 0 }
 {
     input[at]
 }
@@ -37,7 +37,7 @@ fn kept(input: &[u32], at: usize) -> u32
 // Word i of the narrowed picture.
 fn narrowed_at(channels: usize, input: &[u32], i: usize) -> u32
     requires { Channels channels × (i < length input.now / 4 * channels) }
-    ensures { result ≡ get_or (narrowed_of channels (before input)) i 0 }
+    ensures { result ≡ get_or (narrowed_of channels input.now) i 0 }
 {
     if channels == 1 {
         return word(luma(values(rgba_at(input, 4, i))));
@@ -68,7 +68,7 @@ fn accepted_channels(wanted: i64, input: usize, output: usize) -> usize
 
 // The input narrowed to the channels wanted.
 pub fn narrow(wanted: i64, input: &[u32], output: &mut [u32]) -> u64
-    ensures { narrowed result (after output) ≡ narrow_of wanted (before input) (before output) }
+    ensures { narrowed result (after output) ≡ narrow_of wanted input.now (before output) }
 {
     let channels = accepted_channels(wanted, input.len(), output.len());
     if channels == 0 {
@@ -84,7 +84,7 @@ pub fn narrow(wanted: i64, input: &[u32], output: &mut [u32]) -> u64
 
 // The same as bytes.
 pub fn narrow_bytes(wanted: i64, input: &[u32], output: &mut [u8]) -> u64
-    ensures { narrowed result (after output) ≡ narrow_bytes_of wanted (before input) (before output) }
+    ensures { narrowed result (after output) ≡ narrow_bytes_of wanted input.now (before output) }
 {
     let channels = accepted_channels(wanted, input.len(), output.len());
     if channels == 0 {

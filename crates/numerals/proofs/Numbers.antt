@@ -1,6 +1,6 @@
 -- Each kind of number is read as it is printed, and nothing else is read. Assumes nothing.
 use mathlib.Core.Path.{◌≡◌, refl, sym, ap, ◌∙◌}
-use mathlib.Core.Bool.{Bool, true, false, cond, not, ◌||◌, ◌&&◌, or_true}
+use mathlib.Core.Bool.{Bool, true, false, cond, not, ◌||◌, ◌&&◌, or-true}
 use mathlib.Core.List.{List, [], ◌∷◌}
 use Prim.Native.Nat.{ℕ, zero, suc, ◌+◌, ◌*◌, ◌-◌, ◌/◌, ◌%◌, ◌^◌, ◌<◌, ◌≤◌}
 use native.Mathlib.Nat.{zero-add, add-zero, mod-lt, pow-suc, suc-mul, mul-le-mul_right, pow-le-pow_right}
@@ -68,7 +68,7 @@ digits_spelling base [] k h = refl
 digits_spelling base (b ∷ s) k h =
     let p = and_true (ltb (digit_of b) base) (are_digits base s) h in
     let d = ltb-true (digit_of b) base p.0 in
-    rw (lt-ltb (digit_of b) 16 (omega arith), or_true (eqb b 45)) (digits_spelling base s k p.1)
+    rw (lt-ltb (digit_of b) 16 (omega arith), or-true (eqb b 45)) (digits_spelling base s k p.1)
 
 -- the eight digits of a word
 pub hex_there : (w : ℕ) → is_word w ≡ true → hex_of (hex_text w) ≡ Of w

@@ -1,6 +1,7 @@
 // Numbers of a text: decimal ones with a sign, and words of eight hexadecimal digits (document 02, A.2). A function is given just the bytes that must be the
 // number. The contracts cite specs/Digits and specs/Numbers.
 #![tactic(auto)]
+
 ghost use Rattle.std.specs.Prelude.{◌≡◌, ◌≤◌, length};
 ghost use Rattle.lent.specs.Lent.{before};
 ghost use Rattle.numerals.specs.Digits.{digit_of, number_in};
@@ -47,7 +48,7 @@ fn digit(b: u8) -> u64
 // A text of digits.
 fn number_in(base: u64, s: &[u8]) -> Number
     requires { (base ≤ 16) × (length s.now ≤ 10) }
-    ensures { result ≡ number_in base (before s) }
+    ensures { result ≡ number_in base s.now }
 {
     let mut n = 0;
     let mut i = 0;
@@ -64,7 +65,7 @@ fn number_in(base: u64, s: &[u8]) -> Number
 
 // A decimal number without a sign: one to ten digits, no zero before others.
 fn unsigned(s: &[u8]) -> Number
-    ensures { result ≡ unsigned_of (before s) }
+    ensures { result ≡ unsigned_of s.now }
 {
     if DIGITS < s.len() {
         return Number::Not;
@@ -82,7 +83,7 @@ fn unsigned(s: &[u8]) -> Number
 }
 
 fn positive(s: &[u8]) -> Integer
-    ensures { result ≡ plus (unsigned_of (before s)) }
+    ensures { result ≡ plus (unsigned_of s.now) }
 {
     match unsigned(s) {
         Number::Of(n) => Integer::Of(n as i64),
@@ -91,7 +92,7 @@ fn positive(s: &[u8]) -> Integer
 }
 
 fn negative(s: &[u8]) -> Integer
-    ensures { result ≡ minus (unsigned_of (before s)) }
+    ensures { result ≡ minus (unsigned_of s.now) }
 {
     match unsigned(s) {
         Number::Of(n) => {
@@ -106,7 +107,7 @@ fn negative(s: &[u8]) -> Integer
 
 // A decimal number, with a minus where it is below 0.
 pub fn decimal(s: &[u8]) -> Integer
-    ensures { result ≡ decimal_of (before s) }
+    ensures { result ≡ decimal_of s.now }
 {
     if s.len() == 0 {
         return Integer::Not;
@@ -119,7 +120,7 @@ pub fn decimal(s: &[u8]) -> Integer
 
 // A word of 32 bits: eight hexadecimal digits.
 pub fn hex(s: &[u8]) -> Number
-    ensures { result ≡ hex_of (before s) }
+    ensures { result ≡ hex_of s.now }
 {
     if s.len() != WORD {
         return Number::Not;

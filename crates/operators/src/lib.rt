@@ -1,6 +1,7 @@
 // The 70 operators of `CompositeOp` (composite.rs 46 to 194): their numbers, their conventions, and what a number names.
 // The contracts cite specs/Operators and specs/Numbers, that of the match specs/Listed.
 #![tactic(auto)]
+
 ghost use Rattle.std.specs.Prelude.{◌≡◌};
 ghost use Rattle.operators.specs.Operators.{op_at, convention, is_map};
 ghost use Rattle.operators.specs.Numbers.{named, op_of};

@@ -11,7 +11,7 @@ use float_steps::axis::Axis;
 // The four values of the pixel in column x of row y.
 fn channels_at(picture: &[u32], channels: usize, w: usize, h: usize, x: usize, y: usize) -> [f32; 4]
     requires { (1 ≤ channels) × (channels ≤ 4) × (x < w) × (y < h) × (length picture.now ≡ w * h * channels) }
-    ensures { result ≡ channels_of (values_at (before picture) channels (y * w + x)) }
+    ensures { result ≡ channels_of (values_at picture.now channels (y * w + x)) }
 {
     let p = values(rgba_at(picture, channels, y * w + x));
     [p.r, p.g, p.b, p.a]
@@ -27,7 +27,7 @@ pub fn neighbours(
     y: Axis,
 ) -> [[f32; 4]; 4]
     requires { InPicture picture.now channels w h x y }
-    ensures { result ≡ neighbours_of (values_at (before picture) channels) w x y }
+    ensures { result ≡ neighbours_of (values_at picture.now channels) w x y }
 {
     let x0 = x.at;
     let x1 = x.next;

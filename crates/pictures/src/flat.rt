@@ -22,7 +22,7 @@ pub fn put(out: &mut [u32], i: usize, w: Words)
 // Pixels from .. from + count of a picture, widened, at the front of out.
 pub fn widen(picture: &[u32], channels: usize, from: usize, count: usize, out: &mut [u32])
     requires { (1 ≤ channels) × (channels ≤ 4) × (channels * (from + count) ≤ length picture.now) × (4 * count ≤ length out.old) }
-    ensures { after out ≡ filled (λ i. rgba_at (before picture) channels (from + i)) count (before out) }
+    ensures { after out ≡ filled (λ i. rgba_at picture.now channels (from + i)) count (before out) }
 {
     let mut i = 0;
     while i < count {

@@ -12,7 +12,7 @@ const OPAQUE: u32 = 0x3f80_0000;
 // The pixel whose words begin at a place of the picture, by its channels.
 fn four_at(picture: &[u32], at: usize) -> Words
     requires { at + 4 ≤ length picture.now }
-    ensures { result ≡ four_at (before picture) at }
+    ensures { result ≡ four_at picture.now at }
 {
     Words {
         r: picture[at],
@@ -24,7 +24,7 @@ fn four_at(picture: &[u32], at: usize) -> Words
 
 fn three_at(picture: &[u32], at: usize) -> Words
     requires { at + 3 ≤ length picture.now }
-    ensures { result ≡ three_at (before picture) at }
+    ensures { result ≡ three_at picture.now at }
 {
     Words {
         r: picture[at],
@@ -36,7 +36,7 @@ fn three_at(picture: &[u32], at: usize) -> Words
 
 fn one_at(picture: &[u32], at: usize) -> Words
     requires { at < length picture.now }
-    ensures { result ≡ one_at (before picture) at }
+    ensures { result ≡ one_at picture.now at }
 {
     let gray = picture[at];
     Words {
@@ -50,7 +50,7 @@ fn one_at(picture: &[u32], at: usize) -> Words
 // Pixel j of a picture of four, three or one channels.
 pub fn rgba_at(picture: &[u32], channels: usize, j: usize) -> Words
     requires { (1 ≤ channels) × (channels ≤ 4) × (channels * j + channels ≤ length picture.now) }
-    ensures { result ≡ rgba_at (before picture) channels j }
+    ensures { result ≡ rgba_at picture.now channels j }
 {
     let at = channels * j;
     if channels == 4 {

@@ -1,6 +1,7 @@
 // Where a source lands on the destination: the gravities of gravity_translate.rs, `placement` of composite.rs, and the
 // source's coordinate at a destination pixel. The contracts cite specs/Gravities, specs/Placement and specs/Indices.
 #![tactic(auto)]
+
 ghost use Rattle.std.specs.Prelude.{◌≡◌, ◌<◌, ◌≤◌, ℤ, pos, ◌+ℤ◌, ◌-ℤ◌};
 ghost use Rattle.std.specs.Int.Signed.{quot_z, mag};
 ghost use Rattle.places.specs.Bounds.{slack, reach, Under, Measured, Reached};

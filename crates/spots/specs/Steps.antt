@@ -1,7 +1,7 @@
 -- What the functions beneath the call ask and answer: a layer by its plan, and the recursion by natural numbers. Definitions only.
 use Rattle.std.specs.Prelude.{◌≡◌, Bool, cond, ◌&&◌, ◌||◌, List, ℕ, ◌+◌, ◌*◌, ◌/◌, ◌%◌, ◌^◌, ◌<◌, ◌≤◌, ℤ, pos}
 use Rattle.std.specs.Borrow.{Bor}
-use Rattle.lent.specs.Lent.{Lent, before}
+use Rattle.lent.specs.Shown.{Shown, before}
 use Rattle.faults.specs.Faults.{NONE}
 use Rattle.operators.specs.Operators.{same_op}
 use Rattle.operators.specs.declared.CompositeOp.{CompositeOp}
@@ -60,8 +60,8 @@ inputs_by z dst table args samples = inputs_of (shape_of (pos z.width) (pos z.he
 abbrev pub held_inputs : Sizes → (dst : Bor (List ℕ)) → (table : Bor (List ℤ)) → (args samples : Bor (List ℕ)) → Inputs
 held_inputs z dst table args samples = inputs_by z dst.now table.now args.now samples.now
 
-abbrev pub lent_inputs : Sizes → (dst : Lent (List ℕ)) → (table : Lent (List ℤ)) → (args samples : Lent (List ℕ)) → Inputs
-lent_inputs z dst table args samples = inputs_by z (before dst) (before table) (before args) (before samples)
+abbrev pub lent_inputs : Sizes → (dst : Shown (List ℕ)) → (table : Shown (List ℤ)) → (args samples : Shown (List ℕ)) → Inputs
+lent_inputs z dst table args samples = inputs_by z dst.entry.now table.entry.now args.entry.now samples.entry.now
 
 -- a pixel of picture k of a job without a fault can be asked for
 pub record Asked (i : Inputs) (k : ℕ) : Type 0 where

@@ -56,7 +56,7 @@ fn where_written(p: Plan, source: &[u32], index: Index, x: usize, y: usize) -> N
         × (y < p.dh)
         × (p.dw ≤ slack)
         × (p.dh ≤ slack) }
-    ensures { result ≡ written_needs p (before source) x y }
+    ensures { result ≡ written_needs p source.now x y }
 {
     if stops(p) {
         return Needs::Nothing;
@@ -73,7 +73,7 @@ fn where_written(p: Plan, source: &[u32], index: Index, x: usize, y: usize) -> N
 // Pixel j of the layer with this plan.
 pub fn needs_of(p: Plan, source: &[u32], j: usize) -> Needs
     requires { (Ready p (length source.now)) × (On p j) }
-    ensures { result ≡ needs_by p (before source) (j % p.dw) (j / p.dw) }
+    ensures { result ≡ needs_by p source.now (j % p.dw) (j / p.dw) }
 {
     let dw = p.dw;
     let x = j % dw;

@@ -30,7 +30,7 @@ fn one_for_map(op: CompositeOp) -> usize
 // The map layers among the first `layers`.
 fn maps(table: &[i64], args: &[u32], layers: usize) -> usize
     requires { (layers * columns ≤ length table.now) × (layers * arg_words ≤ length args.now) }
-    ensures { result ≡ maps_of (before table) (before args) layers }
+    ensures { result ≡ maps_of table.now args.now layers }
 {
     let mut count = 0;
     let mut k = 0;
@@ -56,7 +56,7 @@ fn off(side: i64, at: i64) -> bool
 // Whether the spot is off the destination or the job has too many map layers.
 fn bad_spot(shape: Shape, table: &[i64], args: &[u32], layers: usize, x: i64, y: i64) -> bool
     requires { (layers * columns ≤ length table.now) × (layers * arg_words ≤ length args.now) }
-    ensures { result ≡ (off shape.width x || off shape.height y || ltb most_maps (maps_of (before table) (before args) layers)) }
+    ensures { result ≡ (off shape.width x || off shape.height y || ltb most_maps (maps_of table.now args.now layers)) }
 {
     if off(shape.width, x) {
         return true;

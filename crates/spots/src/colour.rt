@@ -20,7 +20,7 @@ use pictures::widen::rgba_at;
 // Pixel j of the destination. Nothing else reads the destination's samples, and each use adds one to the count.
 fn dst_pixel(dst: &[u32], channels: usize, j: usize, reads: &mut u64) -> Words
     requires { (1 ≤ channels) × (channels ≤ 4) × (channels * j + channels ≤ length dst.now) × (reads.old + 1 < 2 ^ 64) }
-    ensures { (result ≡ rgba_at (before dst) channels j) × (after reads ≡ before reads + 1) }
+    ensures { (result ≡ rgba_at dst.now channels j) × (after reads ≡ before reads + 1) }
 {
     *reads += 1;
     rgba_at(dst, channels, j)

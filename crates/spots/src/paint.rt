@@ -20,7 +20,7 @@ use pictures::widen::{rgba_at, values};
 // beneath is read, and the one that is lent has nothing to do with the job.
 pub fn painted(p: Plan, source: &[u32], own: Words, j: usize) -> Words
     requires { (Ready p (length source.now)) × (On p j) × (p.map ≡ false) }
-    ensures { result ≡ painted_by p (before source) own j }
+    ensures { result ≡ painted_by p source.now own j }
 {
     let none = [0u32; 4];
     let mut beneath = [0u32; 4];

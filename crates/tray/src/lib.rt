@@ -30,7 +30,7 @@ fn flag(b: bool) -> u64
 // The operator that a name spells: 0 with its number in `operator`; or 3, with `operator` as it was.
 #[unsafe(no_mangle)]
 pub extern "C" fn tray_from_name(name: &[u8], operator: &mut u64) -> u64
-    ensures { named result (after operator) ≡ name_of (from_name (before name)) (before operator) }
+    ensures { named result (after operator) ≡ name_of (from_name name.now) (before operator) }
 {
     match names::from_name(name) {
         Named::Operator(n) => {
@@ -56,7 +56,7 @@ pub extern "C" fn tray_read_card(
     layers: &mut i64,
 ) -> u64
     ensures { outcome (answer result (after line) (after width) (after height) (after channels) (after layers)) (after rows) (after words)
-        ≡ read_of (before text) (before rows) (before words) }
+        ≡ read_of text.now (before rows) (before words) }
 {
     let a = cards::read(text, rows, words);
     *line = a.line;
@@ -96,7 +96,7 @@ pub extern "C" fn tray_compose(
 // A picture of four channels narrowed to one, three or four: 0 and the whole output; or 11, with the output as it was.
 #[unsafe(no_mangle)]
 pub extern "C" fn tray_narrow(wanted: i64, input: &[u32], output: &mut [u32]) -> u64
-    ensures { narrowed result (after output) ≡ narrow_of wanted (before input) (before output) }
+    ensures { narrowed result (after output) ≡ narrow_of wanted input.now (before output) }
 {
     narrowing::narrow(wanted, input, output)
 }
@@ -104,7 +104,7 @@ pub extern "C" fn tray_narrow(wanted: i64, input: &[u32], output: &mut [u32]) ->
 // The same as bytes.
 #[unsafe(no_mangle)]
 pub extern "C" fn tray_narrow_bytes(wanted: i64, input: &[u32], output: &mut [u8]) -> u64
-    ensures { narrowed result (after output) ≡ narrow_bytes_of wanted (before input) (before output) }
+    ensures { narrowed result (after output) ≡ narrow_bytes_of wanted input.now (before output) }
 {
     narrowing::narrow_bytes(wanted, input, output)
 }

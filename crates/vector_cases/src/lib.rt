@@ -32,7 +32,7 @@ const FILL_NUMBER: i64 = 0x25a5_a5a5_a5a5_a5a5;
 
 // F NAME: number operator.
 pub fn name(line: &[u8]) -> usize
-    ensures { result ≡ name_at (before line) }
+    ensures { result ≡ name_at line.now }
 {
     let mut text = [0u8; 128];
     let mut count: usize = 0;
@@ -41,7 +41,7 @@ pub fn name(line: &[u8]) -> usize
 }
 
 fn named(line: &[u8], at: usize, text: &[u8]) -> usize
-    ensures { result ≡ named_at (before line) at (name_of (from_name (before text)) 0) }
+    ensures { result ≡ named_at line.now at (name_of (from_name text.now) 0) }
 {
     let mut operator: u64 = 0;
     let answer = tray::tray_from_name(text, &mut operator);
@@ -50,9 +50,9 @@ fn named(line: &[u8], at: usize, text: &[u8]) -> usize
 
 // N or B, to words or to bytes, wanted INPUT length: number OUT.
 pub fn narrowing(line: &[u8], as_bytes: bool, input: &mut Picture, count: &mut usize) -> usize
-    ensures value { result ≡ narrowing_at as_bytes (before line) (before input) (before count) }
-    ensures input_value { after input ≡ (input_at (before line) (before input) (before count)).list }
-    ensures count_value { after count ≡ (input_at (before line) (before input) (before count)).count }
+    ensures value { result ≡ narrowing_at as_bytes line.now (before input) (before count) }
+    ensures input_value { after input ≡ (input_at line.now (before input) (before count)).list }
+    ensures count_value { after count ≡ (input_at line.now (before input) (before count)).count }
 {
     let wanted = signed(line, 1);
     let length = number(line, words(line, wanted.next, input, count));
@@ -71,14 +71,14 @@ pub fn narrowing(line: &[u8], as_bytes: bool, input: &mut Picture, count: &mut u
 }
 
 fn narrowed(line: &[u8], at: usize, wanted: i64, input: &[u32], out: &mut [u32]) -> usize
-    ensures { result ≡ narrowed_at (before line) at (narrow_of wanted (before input) (before out)) }
+    ensures { result ≡ narrowed_at line.now at (narrow_of wanted input.now (before out)) }
 {
     let answer = tray::tray_narrow(wanted, input, out);
     written(line, expect(line, at, answer), out)
 }
 
 fn narrowed_bytes(line: &[u8], at: usize, wanted: i64, input: &[u32], out: &mut [u8]) -> usize
-    ensures { result ≡ narrowed_bytes_at (before line) at (narrow_bytes_of wanted (before input) (before out)) }
+    ensures { result ≡ narrowed_bytes_at line.now at (narrow_bytes_of wanted input.now (before out)) }
 {
     let answer = tray::tray_narrow_bytes(wanted, input, out);
     written_bytes(line, expect(line, at, answer), out)
@@ -86,7 +86,7 @@ fn narrowed_bytes(line: &[u8], at: usize, wanted: i64, input: &[u32], out: &mut 
 
 // The place after an output that must be as `out` is.
 fn written(line: &[u8], at: usize, out: &[u32]) -> usize
-    ensures { result ≡ written_at 4294967295 2779096485 (before line) at (before out) }
+    ensures { result ≡ written_at 4294967295 2779096485 line.now at out.now }
 {
     let mut due = [FILL; OUT];
     let mut count = out.len();
@@ -95,7 +95,7 @@ fn written(line: &[u8], at: usize, out: &[u32]) -> usize
 }
 
 fn written_bytes(line: &[u8], at: usize, out: &[u8]) -> usize
-    ensures { result ≡ written_at 255 165 (before line) at (before out) }
+    ensures { result ≡ written_at 255 165 line.now at out.now }
 {
     let mut due = [FILL_BYTE; OUT];
     let mut count = out.len();
@@ -113,7 +113,7 @@ pub fn composition(
     counts: &mut Counts,
 ) -> usize
     ensures { lists_left result dst table args samples counts
-        ≡ composition_at (before line) (lists_found 0 dst table args samples counts) }
+        ≡ composition_at line.now (lists_found 0 dst table args samples counts) }
 {
     let shape = shape_of(line);
     let after_dst = words(line, shape.next, dst, &mut counts[AT_DST]);
@@ -138,7 +138,7 @@ fn composed(
     args: &[u32],
     samples: &[u32],
 ) -> usize
-    ensures { result ≡ composed_by (before line) (inputs_in shape dst (pos 1) table args samples) (number_at largest (before line) at) }
+    ensures { result ≡ composed_by line.now (inputs_in shape dst (pos 1) table args samples) (number_at largest line.now at) }
 {
     let length = number(line, at);
     if length.value > OUT as u64 {
@@ -168,7 +168,7 @@ fn composed_in(
     samples: &[u32],
     out: &mut [u32],
 ) -> usize
-    ensures { result ≡ composed_at (before line) at (compose_of (inputs_in shape dst (pos 1) table args samples) (before out)) }
+    ensures { result ≡ composed_at line.now at (compose_of (inputs_in shape dst (pos 1) table args samples) (before out)) }
 {
     let answer = tray::tray_compose(
         shape.width,
@@ -185,7 +185,7 @@ fn composed_in(
 
 // R TEXT table args: number line width height channels layers TABLE ARGS.
 pub fn card(line: &[u8]) -> usize
-    ensures { result ≡ card_at (before line) }
+    ensures { result ≡ card_at line.now }
 {
     let mut text = [0u8; 2048];
     let mut count: usize = 0;
@@ -195,7 +195,7 @@ pub fn card(line: &[u8]) -> usize
 
 // The table and the arguments are lent with the lengths that the line says.
 fn card_lent(line: &[u8], at: usize, text: &[u8]) -> usize
-    ensures { result ≡ lent_at (before line) at (before text) }
+    ensures { result ≡ lent_at line.now at text.now }
 {
     let numbers = number_up_to(line, at, 320);
     let words = number_up_to(line, numbers.next, 128);
@@ -235,7 +235,7 @@ fn card_read(
     channels: &mut i64,
     count: &mut i64,
 ) -> usize
-    ensures { result ≡ read_at (before line) at (read_of (before text) (before table) (before args)) }
+    ensures { result ≡ read_at line.now at (read_of text.now (before table) (before args)) }
 {
     let number = tray::tray_read_card(text, table, args, bad, width, height, channels, count);
     let after_answers = card_answered(line, at, number, *bad, *width, *height, *channels, *count);
@@ -254,7 +254,7 @@ fn card_answered(
     channels: i64,
     count: i64,
 ) -> usize
-    ensures { result ≡ answers_at (before line) at (answer number bad width height channels count) }
+    ensures { result ≡ answers_at line.now at (answer number bad width height channels count) }
 {
     let sides = expect(line, expect(line, at, number), bad);
     let after_sides = expect_signed(line, expect_signed(line, sides, width), height);
@@ -263,7 +263,7 @@ fn card_answered(
 
 // The place after a table that must be as `out` is.
 fn table_written(line: &[u8], at: usize, out: &[i64]) -> usize
-    ensures { result ≡ table_after (before line) at (before out) }
+    ensures { result ≡ table_after line.now at out.now }
 {
     let mut due: Table = [FILL_NUMBER; 320];
     let mut count = out.len();

@@ -28,7 +28,7 @@ pub fn job(
     counts: &mut Counts,
 ) -> usize
     ensures { job_left result dst table args samples work0 work1 checkpoint counts
-        ≡ job_at (before line) (lists_found 0 dst table args samples counts) (found work0 work1 checkpoint) }
+        ≡ job_at line.now (lists_found 0 dst table args samples counts) (found work0 work1 checkpoint) }
 {
     let shape = shape_of(line);
     let after_dst = words(line, shape.next, dst, &mut counts[AT_DST]);
@@ -70,7 +70,7 @@ fn played(
     counts: &mut Counts,
 ) -> usize
     ensures { let inputs = inputs_in shape dst layers table args samples in memory_left result work0 work1 checkpoint counts
-        ≡ played_at (before line) inputs (memory_found at work0 work1 checkpoint counts) }
+        ≡ played_at line.now inputs (memory_found at work0 work1 checkpoint counts) }
 {
     let after_memory = memory(line, at, work0, work1, checkpoint, counts);
     let mut calls = [0u64; 32];
@@ -124,7 +124,7 @@ fn called(
     counts: &Counts,
 ) -> usize
     ensures { let inputs = inputs_in shape dst layers table args samples in played result (left work0 work1 checkpoint)
-        ≡ called_at (before line) inputs (before calls) (before counts) (played at (found work0 work1 checkpoint)) }
+        ≡ called_at line.now inputs calls.now counts.now (played at (found work0 work1 checkpoint)) }
 {
     let n0 = counts[AT_WORK0];
     let n1 = counts[AT_WORK1];
@@ -169,7 +169,7 @@ fn calls_on(
     checkpoint: &mut [u64],
 ) -> usize
     ensures { let inputs = inputs_in shape dst layers table args samples in played result (left work0 work1 checkpoint)
-        ≡ calls_at (before line) inputs (before calls) (played from (found work0 work1 checkpoint)) }
+        ≡ calls_at line.now inputs calls.now (played from (found work0 work1 checkpoint)) }
 {
     let mut at = from;
     let mut i = 0;
@@ -205,7 +205,7 @@ fn call(
     checkpoint: &mut [u64],
 ) -> usize
     ensures { let inputs = inputs_in shape dst layers table args samples in played result (left work0 work1 checkpoint)
-        ≡ call_at (before line) inputs job allowance (played at (found work0 work1 checkpoint)) }
+        ≡ call_at line.now inputs job allowance (played at (found work0 work1 checkpoint)) }
 {
     let mut layer: u64 = 0;
     let mut stores: u64 = 0;
@@ -235,7 +235,7 @@ fn call(
 
 // The checkpoint as a line shows it: the first number of its list, 0 where there is none.
 fn position(checkpoint: &[u64]) -> u64
-    ensures { result ≡ get_or (before checkpoint) 0 0 }
+    ensures { result ≡ get_or checkpoint.now 0 0 }
 {
     if 0 < checkpoint.len() {
         return checkpoint[0];

@@ -1,6 +1,7 @@
 // How a line of the fixed vectors is read: tokens, numbers and lists (oracle/README.md has their form). A function is given the line and a place in
 // it, and answers the next place. Once something is malformed, or is not what was expected, the place is NOWHERE, and it stays NOWHERE.
 #![tactic(auto)]
+
 mod lists;
 mod numbers;
 

@@ -8,7 +8,7 @@ use crate::numbers::{head_of, number, number_up_to, signed};
 
 // Reads a list of 32-bit words.
 pub fn words(line: &[u8], at: usize, list: &mut [u32], count: &mut usize) -> usize
-    ensures { listed (after list) (after count) result ≡ words_at (before line) at (before list) (before count) }
+    ensures { listed (after list) (after count) result ≡ words_at line.now at (before list) (before count) }
 {
     let head = head_of(line, at, list.len(), count);
     let mut next = head.next;
@@ -24,7 +24,7 @@ pub fn words(line: &[u8], at: usize, list: &mut [u32], count: &mut usize) -> usi
 
 // Reads a list of bytes.
 pub fn bytes(line: &[u8], at: usize, list: &mut [u8], count: &mut usize) -> usize
-    ensures { listed (after list) (after count) result ≡ bytes_at (before line) at (before list) (before count) }
+    ensures { listed (after list) (after count) result ≡ bytes_at line.now at (before list) (before count) }
 {
     let head = head_of(line, at, list.len(), count);
     let mut next = head.next;
@@ -40,7 +40,7 @@ pub fn bytes(line: &[u8], at: usize, list: &mut [u8], count: &mut usize) -> usiz
 
 // Reads a list of 64-bit numbers.
 pub fn longs(line: &[u8], at: usize, list: &mut [u64], count: &mut usize) -> usize
-    ensures { listed (after list) (after count) result ≡ longs_at (before line) at (before list) (before count) }
+    ensures { listed (after list) (after count) result ≡ longs_at line.now at (before list) (before count) }
 {
     let head = head_of(line, at, list.len(), count);
     let mut next = head.next;
@@ -56,7 +56,7 @@ pub fn longs(line: &[u8], at: usize, list: &mut [u64], count: &mut usize) -> usi
 
 // Reads a list of signed numbers.
 pub fn integers(line: &[u8], at: usize, list: &mut [i64], count: &mut usize) -> usize
-    ensures { listed (after list) (after count) result ≡ integers_at (before line) at (before list) (before count) }
+    ensures { listed (after list) (after count) result ≡ integers_at line.now at (before list) (before count) }
 {
     let head = head_of(line, at, list.len(), count);
     let mut next = head.next;
@@ -73,7 +73,7 @@ pub fn integers(line: &[u8], at: usize, list: &mut [i64], count: &mut usize) -> 
 
 // The first `count` words of a list; all of them where it has fewer.
 pub fn first_words(list: &[u32], count: usize) -> &[u32]
-    ensures { result.now ≡ take count (before list) }
+    ensures { result.now ≡ take count list.now }
 {
     if count < list.len() {
         return &list[0..count];
@@ -82,7 +82,7 @@ pub fn first_words(list: &[u32], count: usize) -> &[u32]
 }
 
 pub fn first_bytes(list: &[u8], count: usize) -> &[u8]
-    ensures { result.now ≡ take count (before list) }
+    ensures { result.now ≡ take count list.now }
 {
     if count < list.len() {
         return &list[0..count];
@@ -91,7 +91,7 @@ pub fn first_bytes(list: &[u8], count: usize) -> &[u8]
 }
 
 pub fn first_integers(list: &[i64], count: usize) -> &[i64]
-    ensures { result.now ≡ take count (before list) }
+    ensures { result.now ≡ take count list.now }
 {
     if count < list.len() {
         return &list[0..count];
@@ -100,7 +100,7 @@ pub fn first_integers(list: &[i64], count: usize) -> &[i64]
 }
 
 pub fn first_longs(list: &[u64], count: usize) -> &[u64]
-    ensures { result.now ≡ take count (before list) }
+    ensures { result.now ≡ take count list.now }
 {
     if count < list.len() {
         return &list[0..count];
@@ -109,7 +109,7 @@ pub fn first_longs(list: &[u64], count: usize) -> &[u64]
 }
 
 pub fn same_words(a: &[u32], b: &[u32]) -> bool
-    ensures { result ≡ same (before a) (before b) }
+    ensures { result ≡ same a.now b.now }
 {
     if a.len() != b.len() {
         return false;
@@ -125,7 +125,7 @@ pub fn same_words(a: &[u32], b: &[u32]) -> bool
 }
 
 pub fn same_longs(a: &[u64], b: &[u64]) -> bool
-    ensures { result ≡ same (before a) (before b) }
+    ensures { result ≡ same a.now b.now }
 {
     if a.len() != b.len() {
         return false;
@@ -141,7 +141,7 @@ pub fn same_longs(a: &[u64], b: &[u64]) -> bool
 }
 
 pub fn same_integers(a: &[i64], b: &[i64]) -> bool
-    ensures { result ≡ same_integers (before a) (before b) }
+    ensures { result ≡ same_integers a.now b.now }
 {
     if a.len() != b.len() {
         return false;

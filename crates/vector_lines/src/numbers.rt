@@ -29,7 +29,7 @@ pub struct Head {
 
 // The byte at a place; 0 past the line's end.
 fn byte(line: &[u8], at: usize) -> u8
-    ensures { result ≡ byte_of (before line) at }
+    ensures { result ≡ byte_of line.now at }
 {
     if at < line.len() { line[at] } else { 0 }
 }
@@ -42,7 +42,7 @@ fn past(at: usize) -> usize
 
 // Where the token after a space starts.
 fn token(line: &[u8], at: usize) -> usize
-    ensures { result ≡ token_at (before line) at }
+    ensures { result ≡ token_at line.now at }
 {
     if byte(line, at) == b' ' {
         past(at)
@@ -71,7 +71,7 @@ fn digit(b: u8) -> u64
 }
 
 fn digit_at(line: &[u8], at: usize) -> u64
-    ensures { result ≡ digit_of (byte_of (before line) at) }
+    ensures { result ≡ digit_of (byte_of line.now at) }
 {
     digit(byte(line, at))
 }
@@ -87,7 +87,7 @@ fn nothing() -> Unsigned
 
 // The number whose digits go on at `start` after those that spell `first`; NOWHERE where it has more than 64 bits.
 fn more_digits(line: &[u8], start: usize, first: u64) -> Unsigned
-    ensures { result ≡ gone_on (before line) start first }
+    ensures { result ≡ gone_on line.now start first }
 {
     let mut value = first;
     let mut at = start;
@@ -105,7 +105,7 @@ fn more_digits(line: &[u8], start: usize, first: u64) -> Unsigned
 
 // The number whose digits start at `start`; NOWHERE where there is no digit, or a zero before others, or more than 64 bits.
 fn digits(line: &[u8], start: usize) -> Unsigned
-    ensures { result ≡ digits_at (before line) start }
+    ensures { result ≡ digits_at line.now start }
 {
     let first = digit_at(line, start);
     if first > 15 {
@@ -133,21 +133,21 @@ fn limited(n: Unsigned, most: u64) -> Unsigned
 
 // The number after a space.
 pub fn number_up_to(line: &[u8], at: usize, most: u64) -> Unsigned
-    ensures value { result ≡ number_at most (before line) at }
+    ensures value { result ≡ number_at most line.now at }
     ensures value_le_most { result.value ≤ most }
 {
     limited(digits(line, token(line, at)), most)
 }
 
 pub fn number(line: &[u8], at: usize) -> Unsigned
-    ensures { result ≡ number_at largest (before line) at }
+    ensures { result ≡ number_at largest line.now at }
 {
     number_up_to(line, at, u64::MAX)
 }
 
 // The place after a number that must be `value`.
 pub fn expect(line: &[u8], at: usize, value: u64) -> usize
-    ensures { result ≡ expected_at (before line) at value }
+    ensures { result ≡ expected_at line.now at value }
 {
     let n = number(line, at);
     if n.value == value { n.next } else { NOWHERE }
@@ -157,7 +157,7 @@ const MOST_SIGNED: u64 = 0x7fff_ffff_ffff_ffff;
 
 // A number that may be below zero: then its complement stands after `~`.
 pub fn signed(line: &[u8], at: usize) -> Integer
-    ensures { result ≡ signed_at (before line) at }
+    ensures { result ≡ signed_at line.now at }
 {
     let start = token(line, at);
     if byte(line, start) == b'~' {
@@ -168,7 +168,7 @@ pub fn signed(line: &[u8], at: usize) -> Integer
 
 // The place after a signed number that must be `value`.
 pub fn expect_signed(line: &[u8], at: usize, value: i64) -> usize
-    ensures { result ≡ expected_signed_at (before line) at value }
+    ensures { result ≡ expected_signed_at line.now at value }
 {
     let n = signed(line, at);
     let read = n.value;
@@ -197,9 +197,9 @@ fn complement(n: Unsigned) -> Integer
 
 // What stands in the place of a list that has room for `room` numbers: `=`, or its count, which is written to `count`.
 pub fn head_of(line: &[u8], at: usize, room: usize, count: &mut usize) -> Head
-    ensures value { result ≡ head_at room (before line) at }
+    ensures value { result ≡ head_at room line.now at }
     ensures count_le_room { result.count ≤ room }
-    ensures count_value { after count ≡ count_at room (before line) at (before count) }
+    ensures count_value { after count ≡ count_at room line.now at (before count) }
 {
     let start = token(line, at);
     if byte(line, start) == b'=' {

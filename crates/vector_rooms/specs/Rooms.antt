@@ -2,7 +2,7 @@
 -- SAMPLES 3, INPUT 4, WORK0 5, WORK1 6, MARK 7. `..Found` and `..Left` are the lists that a function is lent, by its parameters, as it finds them and as it
 -- leaves them. Definitions only.
 use Rattle.std.specs.Prelude.{List, ℕ, eqb, ℤ, get_or, set, take}
-use Rattle.lent.specs.Lent.{Lent, before, after}
+use Rattle.lent.specs.Lent.{Lent, Shown, before, after}
 use Rattle.vector_lines.specs.declared.numbers.Integer.{Integer}
 use Rattle.vector_lines.specs.Numbers.{signed_at}
 use Rattle.vector_lines.specs.Lists.{Listed, words_at, longs_at, integers_at, same, if_same}
@@ -109,7 +109,7 @@ inputs_by shape layers s =
     inputs_of (shape_of shape.width shape.height shape.channels) (take (get_or s.counts 0 0) s.dst) layers
     (take (get_or s.counts 1 0) s.table) (take (get_or s.counts 2 0) s.args) (take (get_or s.counts 3 0) s.samples)
 
-abbrev pub inputs_in : Shaped → (dst : Lent (List ℕ)) → ℤ → (table : Lent (List ℤ)) → (args samples : Lent (List ℕ)) → Inputs
+abbrev pub inputs_in : Shaped → (dst : Shown (List ℕ)) → ℤ → (table : Shown (List ℤ)) → (args samples : Shown (List ℕ)) → Inputs
 inputs_in shape = inputs (shape_of shape.width shape.height shape.channels)
 
 -- ---- WORK0 WORK1 MARK

@@ -50,7 +50,7 @@ pub struct Shaped {
 }
 
 pub fn shape_of(line: &[u8]) -> Shaped
-    ensures { result ≡ shape_at (before line) }
+    ensures { result ≡ shape_at line.now }
 {
     let width = signed(line, 1);
     let height = signed(line, width.next);
@@ -76,7 +76,7 @@ pub fn layers(
     counts: &mut Counts,
 ) -> usize
     ensures { layers_left result table args samples counts
-        ≡ layers_at (before line) (layers_found at table args samples counts) }
+        ≡ layers_at line.now (layers_found at table args samples counts) }
 {
     let after_table = integers(line, at, table, &mut counts[AT_TABLE]);
     let after_args = words(line, after_table, args, &mut counts[AT_ARGS]);
@@ -93,7 +93,7 @@ pub fn memory(
     counts: &mut Counts,
 ) -> usize
     ensures { memory_left result work0 work1 checkpoint counts
-        ≡ memory_at (before line) (memory_found at work0 work1 checkpoint counts) }
+        ≡ memory_at line.now (memory_found at work0 work1 checkpoint counts) }
 {
     let after_work0 = words(line, at, work0, &mut counts[AT_WORK0]);
     let after_work1 = words(line, after_work0, work1, &mut counts[AT_WORK1]);
@@ -102,13 +102,13 @@ pub fn memory(
 
 // The place after a list that must be what the calls left, `got`: it has as many elements as before, and the same.
 fn words_left(due: &[u32], count: usize, got: &[u32], was: usize, next: usize) -> usize
-    ensures { result ≡ as_before was count (before due) (before got) next }
+    ensures { result ≡ as_before was count due.now got.now next }
 {
     if_same(count == was, if_same(same_words(due, got), next))
 }
 
 fn longs_left(due: &[u64], count: usize, got: &[u64], was: usize, next: usize) -> usize
-    ensures { result ≡ as_before was count (before due) (before got) next }
+    ensures { result ≡ as_before was count due.now got.now next }
 {
     if_same(count == was, if_same(same_longs(due, got), next))
 }
@@ -125,7 +125,7 @@ pub fn all_left(
     checkpoint: &mut Checkpoint,
     counts: &mut Counts,
 ) -> usize
-    ensures { let due = memory_found at due0 due1 due_checkpoint counts in memory_left result work0 work1 checkpoint counts ≡ left_at (before line) due (before work0) (before work1) (before checkpoint) }
+    ensures { let due = memory_found at due0 due1 due_checkpoint counts in memory_left result work0 work1 checkpoint counts ≡ left_at line.now due (before work0) (before work1) (before checkpoint) }
 {
     let n0 = counts[AT_WORK0];
     let n1 = counts[AT_WORK1];

@@ -24,7 +24,7 @@ fn replayed(
     counts: &mut Counts,
 ) -> usize
     ensures { answer result (kept_left dst table args samples input work0 work1 checkpoint counts)
-        ≡ replayed_at (before line) (kept_found dst table args samples input work0 work1 checkpoint counts) }
+        ≡ replayed_at line.now (kept_found dst table args samples input work0 work1 checkpoint counts) }
 {
     match first(line) {
         b'F' => name(line),
@@ -41,7 +41,7 @@ fn replayed(
 
 // Replays every line and keeps where its answer ends.
 fn replay(text: &[u8], places: &mut [usize])
-    ensures { after places ≡ places_from replayed_at 0 (lines_of (before text)) nothing_kept (before places) }
+    ensures { after places ≡ places_from replayed_at 0 (lines_of text.now) nothing_kept (before places) }
 {
     let mut dst: Picture = [0; 256];
     let mut table: Table = [0; 320];
@@ -83,8 +83,8 @@ pub fn judge(
     right: &mut [u64],
     wrong: &mut [u64],
 ) -> u64
-    ensures { let lines = lines_of (before text) in counts_left right wrong result
-        ≡ lines_counted (before kinds) (places_from replayed_at 0 lines nothing_kept (before places)) 0 lines (counts_found right wrong 0) }
+    ensures { let lines = lines_of text.now in counts_left right wrong result
+        ≡ lines_counted kinds.now (places_from replayed_at 0 lines nothing_kept (before places)) 0 lines (counts_found right wrong 0) }
 {
     replay(text, places);
     count_lines(text, places, kinds, right, wrong)

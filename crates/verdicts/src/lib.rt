@@ -1,5 +1,6 @@
 // The verdict on a text of vectors: its lines, the kind of each, and how many of a kind are answered right and wrong.
 #![tactic(auto)]
+
 mod counting;
 mod lines;
 

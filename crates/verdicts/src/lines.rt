@@ -10,8 +10,8 @@ use crate::counting::tally;
 // Where the line that starts at `from` ends.
 pub fn line_end(text: &[u8], from: usize) -> usize
     requires { from ≤ length text.now }
-    ensures value { result ≡ from + width_of (drop from (before text)) }
-    ensures lower_bound { (from ≤ result) × (result ≤ length (before text)) }
+    ensures value { result ≡ from + width_of (drop from text.now) }
+    ensures lower_bound { (from ≤ result) × (result ≤ length text.now) }
 {
     let mut at = from;
     while at < text.len() {
@@ -25,7 +25,7 @@ pub fn line_end(text: &[u8], from: usize) -> usize
 
 // The first byte of a line; 0 where it is empty.
 pub fn first(line: &[u8]) -> u8
-    ensures { result ≡ first_of (before line) }
+    ensures { result ≡ first_of line.now }
 {
     if 0 < line.len() {
         return line[0];
@@ -35,7 +35,7 @@ pub fn first(line: &[u8]) -> u8
 
 // Whether a line asks something.
 fn is_asked(line: &[u8]) -> bool
-    ensures { result ≡ asks (before line) }
+    ensures { result ≡ asks line.now }
 {
     if line.len() == 0 {
         return false;
@@ -45,7 +45,7 @@ fn is_asked(line: &[u8]) -> bool
 
 // What a line asks.
 pub fn asked(line: &[u8]) -> &[u8]
-    ensures { result.now ≡ asked_of (before line) }
+    ensures { result.now ≡ asked_of line.now }
 {
     let one: usize = 1;
     if first(line) == b'!' {
@@ -58,8 +58,8 @@ pub fn asked(line: &[u8]) -> &[u8]
 
 // The kind of a line that starts with `first`: where it stands among the kinds' letters.
 fn kind_of(kinds: &[u8], first: u8) -> usize
-    ensures value { result ≡ kind_of (before kinds) first }
-    ensures upper_bound { result ≤ length (before kinds) }
+    ensures value { result ≡ kind_of kinds.now first }
+    ensures upper_bound { result ≤ length kinds.now }
 {
     let mut i = 0;
     while i < kinds.len() {
@@ -73,7 +73,7 @@ fn kind_of(kinds: &[u8], first: u8) -> usize
 
 // Whether a line is answered right whose answer ends at a place.
 fn is_right(line: &[u8], place: usize) -> bool
-    ensures { result ≡ right_at (before line) place }
+    ensures { result ≡ right_at line.now place }
 {
     let end = asked(line).len();
     if first(line) == b'!' {
@@ -96,7 +96,7 @@ fn earlier(first: u64, number: u64, is_wrong: bool) -> u64
 
 // Whether a line is counted as right, and whether as wrong: one that asks nothing is neither.
 fn counts_right(line: &[u8], place: usize) -> bool
-    ensures { result ≡ asks (before line) && right_at (before line) place }
+    ensures { result ≡ asks line.now && right_at line.now place }
 {
     if is_asked(line) {
         return is_right(line, place);
@@ -105,7 +105,7 @@ fn counts_right(line: &[u8], place: usize) -> bool
 }
 
 fn counts_wrong(line: &[u8], place: usize) -> bool
-    ensures { result ≡ asks (before line) && not (right_at (before line) place) }
+    ensures { result ≡ asks line.now && not (right_at line.now place) }
 {
     if is_asked(line) {
         return !is_right(line, place);
@@ -124,7 +124,7 @@ fn count_line(
     wrong: &mut [u64],
 ) -> u64
     ensures { counts_left right wrong result
-        ≡ line_counted (before kinds) number (before line) place (counts_found right wrong first_wrong) }
+        ≡ line_counted kinds.now number line.now place (counts_found right wrong first_wrong) }
 {
     let kind = kind_of(kinds, first(line));
     let is_wrong = counts_wrong(line, place);
@@ -144,7 +144,7 @@ pub fn put_place(places: &mut [usize], i: usize, place: usize)
 
 // Where the i-th line's answer ends; 0 where no place is given.
 fn place_of(places: &[usize], i: usize) -> usize
-    ensures { result ≡ get_or (before places) i 0 }
+    ensures { result ≡ get_or places.now i 0 }
 {
     if i < places.len() {
         return places[i];
@@ -161,7 +161,7 @@ pub fn count_lines(
     wrong: &mut [u64],
 ) -> u64
     ensures { counts_left right wrong result
-        ≡ lines_counted (before kinds) (before places) 0 (lines_of (before text)) (counts_found right wrong 0) }
+        ≡ lines_counted kinds.now places.now 0 (lines_of text.now) (counts_found right wrong 0) }
 {
     let mut first_wrong: u64 = 0;
     let mut i: usize = 0;

@@ -1,8 +1,0 @@
--- `byte` meets its contract: past its end a list reads as 0. Assumes nothing.
-use borrow.Author.Rules.{rules}
-use lib.ListN.{get_or-eq_default}
-use Rattle.vector_lines.proofs.numbers.byte.Statement.{statement}
-use Rattle.vector_lines.proofs.numbers.byte.Tie as tie
-
-pub byte-spec : {M : Type 1} → statement M
-byte-spec = tie.close (tie.spec (λ c. search rules) (λ c. search rules) (λ c. search get_or-eq_default))

@@ -1,8 +1,0 @@
--- `first` meets its contract: past its end a list reads as 0. Assumes nothing.
-use lib.ListN.{get_or-eq_default}
-use borrow.Author.Rules.{rules}
-use Rattle.verdicts.proofs.lines.first.Statement.{statement}
-use Rattle.verdicts.proofs.lines.first.Tie as tie
-
-pub first_spec : {M : Type 1} → statement M
-first_spec = tie.close (tie.spec (λ c. search rules) (λ c. search rules) (λ c. search get_or-eq_default))
