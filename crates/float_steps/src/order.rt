@@ -3,6 +3,7 @@ ghost use Rattle.std.specs.Prelude.{◌≡◌};
 ghost use Rattle.float_steps.specs.Order.{smaller_of, larger_of, clamp_of, unit_of, finite_of};
 
 // `a.min(b)`: a NaN yields the other operand, and equal values the first.
+#[tactic(auto, unfolding(crate::specs::Order::smaller_of))]
 pub fn smaller(a: f32, b: f32) -> f32
     ensures { result ≡ smaller_of a b }
 {
@@ -13,6 +14,7 @@ pub fn smaller(a: f32, b: f32) -> f32
 }
 
 // `a.max(b)`: a NaN yields the other operand, and equal values the first.
+#[tactic(auto, unfolding(crate::specs::Order::larger_of))]
 pub fn larger(a: f32, b: f32) -> f32
     ensures { result ≡ larger_of a b }
 {
@@ -23,6 +25,7 @@ pub fn larger(a: f32, b: f32) -> f32
 }
 
 // `v.clamp(lo, hi)`: a NaN stays.
+#[tactic(auto, unfolding(crate::specs::Order::clamp_of))]
 pub fn clamp(v: f32, lo: f32, hi: f32) -> f32
     ensures { result ≡ clamp_of v lo hi }
 {
@@ -40,6 +43,7 @@ pub fn unit(v: f32) -> f32
 }
 
 // `v.is_finite()`: strictly between the infinities.
+#[tactic(auto, unfolding(crate::specs::Order::finite_of))]
 pub fn finite(v: f32) -> bool
     ensures { result ≡ finite_of v }
 {

@@ -1,7 +1,7 @@
 -- What the functions beneath the call ask and answer: a layer by its plan, and the recursion by natural numbers. Definitions only.
 use Rattle.std.specs.Prelude.{◌≡◌, Bool, cond, ◌&&◌, ◌||◌, List, ℕ, ◌+◌, ◌*◌, ◌/◌, ◌%◌, ◌^◌, ◌<◌, ◌≤◌, ℤ, pos}
 use Rattle.std.specs.Borrow.{Bor}
-use Rattle.lent.specs.Shown.{Shown, before}
+use Rattle.lent.specs.Lent.{Shown}
 use Rattle.faults.specs.Faults.{NONE}
 use Rattle.operators.specs.Operators.{same_op}
 use Rattle.operators.specs.declared.CompositeOp.{CompositeOp}
