@@ -11,11 +11,10 @@
  *
  * What is lent. A list is lent as a pointer and its count of elements, for the time of the call; no pointer is kept.
  * Pointers to const are only read. The others are written only as each function says, and not at all by a call that is
- * refused (its answer is not 0), but for the answers of tray_job (layer, stores, finished), of tray_spot (layer, red,
- * green, blue, alpha, reads) and of tray_read_card (line, width, height, channels, layers), which every call writes. The
- * pointer of an empty list is not read, but must not be null and must be aligned for its type, as all pointers must.
- * Whatever a call writes, a list or a single answer, must overlap neither anything else that it writes nor any list that
- * it reads.
+ * refused (its answer is not 0), but for the answers of tray_job (layer, stores, finished) and of tray_read_card (line,
+ * width, height, channels, layers), which every call writes. The pointer of an empty list is not read, but must not be
+ * null and must be aligned for its type, as all pointers must. Whatever a call writes, a list or a single answer, must
+ * overlap neither anything else that it writes nor any list that it reads.
  *
  * Calls have no state of their own and take no lock, allocate nothing and always return. Calls on different lists may
  * run at the same time.
@@ -37,8 +36,7 @@
  * and sets it by fesetenv(FE_DFL_ENV), or by _mm_setcsr(0x1F80) on x86-64. The Rust crate host/tray
  * looks at the rounding and the subnormal numbers before each call that computes.
  *
- * Answers. 0: done. Otherwise the number of the first fault, in the order 1, 2, then layer by layer 3 to 8 and 13, then 9, 10, 14,
- * or in tray_spot, which has neither work buffers nor a mark, then 15:
+ * Answers. 0: done. Otherwise the number of the first fault, in the order 1, 2, then layer by layer 3 to 8 and 13, then 9, 10, 14:
  *
  *    1  STACK      layers not 1 to 16; table not 14 or arguments not 4 a layer
  *    2  TRAY       a side of the destination not 0 to 2048; channels not 1, 3, 4; samples not width x height x channels
@@ -54,7 +52,6 @@
  *   12  CARD       a line of a card out of form or a layer too many; table or arguments not those of 16 layers
  *   13  WINDOW     left, top, width or height of a window not 0 to 2048, each by itself
  *   14  JOB NUMBER the mark's second number is not the call's job_number
- *   15  SPOT       the spot lies off the destination, or the job has more than four map layers (displace, distort)
  */
 #ifndef TRAY_H
 #define TRAY_H
@@ -78,8 +75,7 @@ enum tray_limit {
     TRAY_MAX_LAYERS = 16,       /* 1, of a card 12 */
     TRAY_MAX_SIDE = 2048,       /* 2 for a destination, 7 for a source, 13 for each number of a window */
     TRAY_MAX_OFFSET = 1000000,  /* 5: right or down, and as far to the left or up */
-    TRAY_MAX_ARGUMENTS = 4,     /* 8, of a card 12: words of `args` a layer, of which TRAY_COLUMN_COUNT are read */
-    TRAY_MAX_MAPS = 4           /* 15: layers of displace or distort in a job whose spot is asked; a job itself may have more */
+    TRAY_MAX_ARGUMENTS = 4      /* 8, of a card 12: words of `args` a layer, of which TRAY_COLUMN_COUNT are read */
 };
 
 enum tray_fault {
@@ -97,8 +93,7 @@ enum tray_fault {
     TRAY_NARROW = 11,
     TRAY_CARD = 12,
     TRAY_WINDOW = 13,
-    TRAY_JOB_NUMBER = 14,
-    TRAY_SPOT = 15
+    TRAY_JOB_NUMBER = 14
 };
 
 /* The layer table: fourteen numbers a layer, the lowest layer first.
@@ -307,38 +302,6 @@ uint64_t tray_job(
     uint64_t job_number, uint64_t allowance,
     uint32_t *work0, size_t work0_length, uint32_t *work1, size_t work1_length, uint64_t *mark, size_t mark_length,
     uint64_t *layer, uint64_t *stores, uint64_t *finished);
-
-/* The final colour of one pixel of a job, column x and row y counted from 0, worked out from the inputs without the picture.
- *
- * The inputs are lent as to tray_job, and checked as there. There are no work buffers, no mark and no job number: the colour is
- * the same before the job's first call, at any position and when it is finished. Nothing is written but the six answers. So
- * a call may be made while a worker runs the job on the same inputs, in another thread or in another process.
- *
- *  - 0: *red, *green, *blue and *alpha are the words of the pixel that the finished job has there, with the same bits, a NaN's
- *    too; *layer is 0; *reads is how many pixels of the destination were read, one as often as it was.
- *  - 1 to 8 or 13: the job's first fault, as tray_job has it; *layer is the layer at fault counted from 0, and 0 with 1 and 2.
- *  - 15: x is not 0 to width - 1 or y is not 0 to height - 1 (a destination without pixels has no spot); or more than
- *    TRAY_MAX_MAPS of the layers are map layers (displace or distort), whether they write the pixel or not. *layer is 0. It is
- *    asked last.
- *
- * A refused call answers four words 0 and 0 reads.
- *
- * What is read. From the top layer down, a layer writes the pixel if its window holds it and, besides, the pixel lies on the
- * source, tiling counted, or overlay is on, whichever channels are on. One that does not needs the pixel beneath it. One that
- * does needs, if it is src or clear with all four channels on, nothing beneath it; if it is a map layer, the four pixels
- * beneath that it mixes, four also where they are the same one, and the pixel itself besides if a channel is off; if it is any
- * other, the pixel itself. A pixel beneath the lowest layer is a read of the destination, one for each time that it is needed.
- * So there is 1 read without map layers, or 0 above such a src or clear; and with M map layers never more than 5 to the
- * power of M, which is 625 for the most that are taken.
- *
- * What it costs. No more pixels are composited than the bound of the reads times the layers, however large the destination:
- * with four map layers among sixteen, fewer than a job of one layer on a destination of 100 x 100 has. */
-uint64_t tray_spot(
-    int64_t width, int64_t height, int64_t channels, const uint32_t *dst, size_t dst_length,
-    int64_t layers, const int64_t *table, size_t table_length, const uint32_t *args, size_t args_length,
-    const uint32_t *samples, size_t samples_length,
-    int64_t x, int64_t y,
-    uint64_t *layer, uint32_t *red, uint32_t *green, uint32_t *blue, uint32_t *alpha, uint64_t *reads);
 
 /* Reads a card: a job as text, which people keep and edit. It has neither samples nor a job number: those of the
  * destination and of the sources, and a number for each job, a host has besides. One form a line, single spaces, each line

@@ -1,7 +1,7 @@
 //! The text form of a case, one a line: what is asked, then what must be answered. oracle/README.md
 //! describes it. `Reader` and `Writer` remember the lists that '=' stands for.
 
-use crate::request::{Answer, Call, CardAnswer, Job, Memory, Side, SpotAnswer};
+use crate::request::{Answer, Call, CardAnswer, Job, Memory, Side};
 use std::fmt::Write;
 
 /// Where the fixed vectors stand: they are what the program that replays them reads.
@@ -42,12 +42,6 @@ pub enum Request {
         table: usize,
         args: usize,
     },
-    /// A pixel of a job's last picture.
-    Spot {
-        job: Job,
-        x: i64,
-        y: i64,
-    },
 }
 
 /// What is answered, with every list that was lent for writing as the request left it.
@@ -58,7 +52,6 @@ pub enum Outcome {
     Bytes { number: u64, out: Vec<u8> },
     Calls { answers: Vec<(Answer, u64)>, memory: Memory },
     Card { answer: CardAnswer, table: Vec<i64>, args: Vec<u32> },
-    Spot(SpotAnswer),
 }
 
 #[derive(Clone, Debug, PartialEq)]
@@ -108,7 +101,6 @@ pub fn ask(side: &dyn Side, request: &Request) -> Outcome {
             let answer = side.read_card(text, &mut table, &mut args);
             Outcome::Card { answer, table, args }
         }
-        Request::Spot { job, x, y } => Outcome::Spot(side.spot(job, *x, *y)),
     }
 }
 
@@ -272,12 +264,6 @@ impl Writer {
                 self.number(*table);
                 self.number(*args);
             }
-            Request::Spot { job, x, y } => {
-                self.line.push('S');
-                self.job(job, true);
-                self.number(*x);
-                self.number(*y);
-            }
         }
     }
 
@@ -313,12 +299,6 @@ impl Writer {
                 }
                 self.output(table, FILL_INTEGER);
                 self.output(args, FILL);
-            }
-            Outcome::Spot(SpotAnswer { number, layer, colour, reads }) => {
-                self.number(*number);
-                self.number(*layer);
-                colour.iter().for_each(|word| self.number(*word));
-                self.number(*reads);
             }
         }
     }
@@ -404,15 +384,6 @@ fn card_answer(tokens: &mut Tokens) -> Result<CardAnswer, String> {
     })
 }
 
-fn spot_answer(tokens: &mut Tokens) -> Result<SpotAnswer, String> {
-    Ok(SpotAnswer {
-        number: number(tokens)?,
-        layer: number(tokens)?,
-        colour: [number(tokens)?, number(tokens)?, number(tokens)?, number(tokens)?],
-        reads: number(tokens)?,
-    })
-}
-
 impl Reader {
     fn job(&mut self, tokens: &mut Tokens, layers: bool) -> Result<Job, String> {
         let (width, height, channels) = (number(tokens)?, number(tokens)?, number(tokens)?);
@@ -456,7 +427,6 @@ impl Reader {
             "C" => Request::Compose { job: self.job(tokens, false)?, length: number(tokens)? },
             "J" => Request::Calls { job: self.job(tokens, true)?, memory: self.memory(tokens)?, calls: calls(tokens)? },
             "R" => Request::Card { text: shared(tokens, &[])?, table: number(tokens)?, args: number(tokens)? },
-            "S" => Request::Spot { job: self.job(tokens, true)?, x: number(tokens)?, y: number(tokens)? },
             _ => return Err(format!("{kind:?} is no kind of line")),
         })
     }
@@ -488,7 +458,6 @@ impl Reader {
                 table: shared(tokens, &vec![FILL_INTEGER; *table])?,
                 args: shared(tokens, &vec![FILL; *args])?,
             },
-            Request::Spot { .. } => Outcome::Spot(spot_answer(tokens)?),
         })
     }
 
@@ -544,26 +513,5 @@ mod tests {
         for odd in ["1 5", "1 5 1 0 0 0 0", "3 3 5 3 1 0 0 0 0", "3 3 5 3 1 0 0 0 0 1 0 0 0 0"] {
             assert!(calls(odd).is_err_and(|reason| reason.contains("for each call")), "{odd}");
         }
-        let spot = |rest: &str| read(&format!("S 0 0 1 0 1 0 0 0 {rest}")).map(|case| case.is_some());
-        assert_eq!(spot("~0 3 1 0 0 0 0 0 0"), Ok(true));
-        assert_eq!(spot("0 ~7fffffffffffffff 0 0 ffffffff 1 2 3 ffffffffffffffff"), Ok(true));
-        for line in ["0 0 1 0 0 0 0 0", "0 0 1 0 0 0 0 0 0 0", "0 0 1 0 100000000 0 0 0 0", "0 8000000000000000 1 0 0 0 0 0 0"]
-        {
-            assert!(spot(line).is_err(), "{line}");
-        }
-    }
-
-    /// A spot's lists are what '=' stands for on the next line of a job, and it leaves the memory of the line before.
-    #[test]
-    fn spots_share_lists() {
-        let mut reader = Reader::default();
-        reader.case("J 0 0 1 0 1 1 5 0 0 1 9 0 2 0 3 0 = = =").unwrap();
-        reader.case("S 0 0 1 1 7 1 = 1 8 0 0 0 1 0 0 0 0 0 0").unwrap();
-        let line = "J 0 0 1 = 1 = = = = = = 0 = = =";
-        let Ok(Some(Case { request: Request::Calls { job, memory, .. }, .. })) = reader.case(line) else {
-            panic!("the line is in form")
-        };
-        assert_eq!((job.dst, job.table, job.args, job.samples), (vec![7], vec![5], vec![8], vec![]));
-        assert_eq!((memory.work, memory.mark), ([vec![9], vec![]], vec![0, 3]));
     }
 }

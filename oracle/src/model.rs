@@ -2,10 +2,7 @@
 //! with its phases, work pictures, mark, allowance and answer; document 02's job number. Every pixel comes from
 //! `reference`, where a layer has a window by way of `window`.
 
-use crate::request::{
-    ARGUMENTS, Answer, COLUMNS, Call, CardAnswer, Job, LAYERS, Layer, Memory, Picture, Side, SpotAnswer, WINDOW,
-};
-use crate::spot::Spots;
+use crate::request::{ARGUMENTS, Answer, COLUMNS, Call, CardAnswer, Job, LAYERS, Layer, Memory, Picture, Side, WINDOW};
 use crate::{card, reference, window};
 
 const SIDE: i64 = 2048;
@@ -164,7 +161,7 @@ fn narrowed(wanted: i64, input: usize) -> Option<usize> {
     ([1, 3, 4].contains(&wanted) && input.is_multiple_of(4)).then_some(input / 4 * wanted as usize)
 }
 
-/// The reference: the compiled Rust with document 01 around it, and document 02's windows, job numbers, spots and card.
+/// The reference: the compiled Rust with document 01 around it, and document 02's windows, job numbers and card.
 pub struct Reference;
 
 impl Side for Reference {
@@ -209,9 +206,5 @@ impl Side for Reference {
 
     fn read_card(&self, text: &[u8], table: &mut [i64], args: &mut [u32]) -> CardAnswer {
         card::read_card(text, table, args)
-    }
-
-    fn spot(&self, job: &Job, x: i64, y: i64) -> SpotAnswer {
-        Spots::of(job).at(x, y)
     }
 }

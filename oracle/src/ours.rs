@@ -16,7 +16,7 @@ pub fn linked() -> Option<Box<dyn Side>> {
 
 #[cfg(feature = "tray")]
 mod library {
-    use crate::request::{Answer, Call, CardAnswer, Job, Memory, Side, SpotAnswer};
+    use crate::request::{Answer, Call, CardAnswer, Job, Memory, Side};
     use tray::raw;
 
     /// What the library says of a name: 0 and its operator; or 3, with the operator as it was.
@@ -90,9 +90,6 @@ mod library {
         channels: LONG as i64,
         layers: LONG as i64,
     };
-
-    /// A spot's answers before a call writes them.
-    const NO_SPOT: raw::SpotAnswers = raw::SpotAnswers { layer: LONG, colour: [WORD; 4], reads: LONG };
 
     /// The lists of a job's inputs, lent.
     struct Inputs {
@@ -200,15 +197,6 @@ mod library {
             args.copy_from_slice(words.around_kept().list());
             let raw::CardAnswers { line, width, height, channels, layers } = answers.only();
             CardAnswer { number, line, width, height, channels, layers }
-        }
-
-        fn spot(&self, job: &Job, x: i64, y: i64) -> SpotAnswer {
-            let inputs = Inputs::new(job);
-            let mut answers = Lent::new(&[NO_SPOT], NO_SPOT);
-            let number = raw::spot(&inputs.lent(job), x, y, &mut answers.list_mut()[0]);
-            inputs.kept(job);
-            let raw::SpotAnswers { layer, colour, reads } = answers.only();
-            SpotAnswer { number, layer, colour, reads }
         }
     }
 }

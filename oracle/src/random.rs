@@ -266,17 +266,12 @@ impl Random {
     /// A job without a fault.
     pub fn job(&mut self, layers: u64, most: Sides) -> Job {
         let operators: Vec<i64> = carried().collect();
-        self.stack(layers, most, |random, _| random.pick(&operators))
-    }
-
-    /// The same with an operator of its own for each layer.
-    pub fn stack(&mut self, layers: u64, most: Sides, operator: impl Fn(&mut Random, u64) -> i64) -> Job {
         let channels = self.pick(&[1, 3, 4, 4, 4]);
         let (width, height) = (self.side(most.0), self.side(most.1));
         let dst = self.words((width * height * channels) as usize);
         let mut job = Job { width, height, channels, dst, layers: layers as i64, ..Job::default() };
-        for k in 0..layers {
-            let operator = operator(self, k);
+        for _ in 0..layers {
+            let operator = self.pick(&operators);
             self.layer(operator, most, &mut job);
         }
         self.alike(&mut job);

@@ -54,44 +54,6 @@ fn written(composite: &Composite, width: u32, height: u32, source: &FloatImage) 
     cleared.samples().chunks_exact(4).map(|pixel| pixel[0] == 0.0).collect()
 }
 
-/// Which pixels of a tray with these sides a layer writes, whatever its window is.
-pub fn writes(layer: &Layer, width: u32, height: u32) -> Vec<bool> {
-    written(&composite(layer), width, height, &image(&layer.source))
-}
-
-/// For each pixel that a map layer writes, the columns that it reads beneath (or the rows), asked of the Rust itself: a NaN in
-/// the first to fourth of some columns, in red to alpha, reaches the pixels that read it, since no weight stops a NaN, not
-/// even 0. A pixel reads two columns, which may be the same: then the list has one.
-fn lines_read(layer: &Layer, width: u32, height: u32, columns: bool) -> Vec<Vec<usize>> {
-    let mut probe = composite(layer);
-    probe.channels = ChannelMask::ALL;
-    let source = image(&layer.source);
-    let (pixels, side) = (width as usize * height as usize, if columns { width } else { height } as usize);
-    let line = |i: usize| if columns { i % width as usize } else { i / width as usize };
-    let mut read = vec![Vec::new(); pixels];
-    for first in (0..side).step_by(4) {
-        let sample = |n: usize| if line(n / 4) == first + n % 4 { f32::NAN } else { 0.0 };
-        let beneath = FloatImage::from_samples(width, height, 4, (0..4 * pixels).map(sample).collect()).unwrap();
-        let out = probe.compose_float(&beneath, &source);
-        for (lines, pixel) in read.iter_mut().zip(out.samples().chunks_exact(4)) {
-            lines.extend((0..4).filter(|c| pixel[*c].is_nan()).map(|c| first + c));
-        }
-    }
-    read
-}
-
-/// For each pixel that a map layer writes, the places of its four neighbours beneath, repeated where they coincide.
-pub fn neighbours(layer: &Layer, width: u32, height: u32) -> Vec<[usize; 4]> {
-    let [columns, rows] = [true, false].map(|columns| lines_read(layer, width, height, columns));
-    let both = |lines: &[usize]| [lines[0], lines[lines.len() - 1]];
-    let place = |x: usize, y: usize| y * width as usize + x;
-    let four = |(columns, rows): (&Vec<usize>, &Vec<usize>)| {
-        let ([x0, x1], [y0, y1]) = (both(columns), both(rows));
-        [place(x0, y0), place(x1, y0), place(x0, y1), place(x1, y1)]
-    };
-    columns.iter().zip(&rows).map(four).collect()
-}
-
 /// `compose_float`: the layer on the picture, four channels.
 pub fn compose(dst: &Picture, layer: &Layer) -> Vec<u32> {
     let composite = composite(layer);

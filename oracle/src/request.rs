@@ -108,24 +108,7 @@ impl CardAnswer {
     }
 }
 
-/// What is answered for a pixel of a job's last picture (document 02, A.6): its four words, and how often a pixel of the
-/// tray was read for it.
-#[derive(Clone, Copy, Debug, PartialEq, Eq)]
-pub struct SpotAnswer {
-    pub number: u64,
-    pub layer: u64,
-    pub colour: [u32; 4],
-    pub reads: u64,
-}
-
-impl SpotAnswer {
-    /// Document 02: a refusal gives four zeros and 0 reads.
-    pub fn refused(number: u64, layer: u64) -> Self {
-        SpotAnswer { number, layer, colour: [0; 4], reads: 0 }
-    }
-}
-
-/// One party of a comparison: the seven public calls. `job.layers` is not read by `compose`.
+/// One party of a comparison: the six public calls. `job.layers` is not read by `compose`.
 pub trait Side {
     /// The operator's number, or `None` for an unknown name.
     // The exported call has this name; a side is no operator, and `self` is asked.
@@ -138,8 +121,6 @@ pub trait Side {
     fn call(&self, job: &Job, call: Call, memory: &mut Memory) -> Answer;
     /// Fills the table and the arguments with a card's layers.
     fn read_card(&self, text: &[u8], table: &mut [i64], args: &mut [u32]) -> CardAnswer;
-    /// The colour of the pixel (x, y) in the job's last picture.
-    fn spot(&self, job: &Job, x: i64, y: i64) -> SpotAnswer;
 }
 
 pub fn floats(words: &[u32]) -> Vec<f32> {

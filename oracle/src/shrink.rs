@@ -188,18 +188,6 @@ fn smaller_calls(job: &Job, memory: &Memory, calls: &[Call]) -> Vec<Request> {
     out
 }
 
-/// A smaller job, a spot nearer to the corner.
-fn smaller_spots(job: &Job, x: i64, y: i64) -> Vec<Request> {
-    let crops = crops(job, None).into_iter().map(|(job, _)| job);
-    let mut out: Vec<Request> = crops.chain(simpler(job)).map(|job| Request::Spot { job, x, y }).collect();
-    for (x, y) in [(0, y), (x / 2, y), (x - x.signum(), y), (x, 0), (x, y / 2), (x, y - y.signum())] {
-        out.push(Request::Spot { job: job.clone(), x, y });
-    }
-    // Not the spot that was asked, which would be tried for ever.
-    out.retain(|smaller| !matches!(smaller, Request::Spot { job: same, x: a, y: b } if (same, *a, *b) == (job, x, y)));
-    out
-}
-
 fn smaller(request: &Request) -> Vec<Request> {
     match request {
         Request::Name(name) => shorter(name).into_iter().map(Request::Name).collect(),
@@ -234,7 +222,6 @@ fn smaller(request: &Request) -> Vec<Request> {
         }
         Request::Calls { job, memory, calls } => smaller_calls(job, memory, calls),
         Request::Card { text, table, args } => smaller_cards(text, *table, *args),
-        Request::Spot { job, x, y } => smaller_spots(job, *x, *y),
     }
 }
 

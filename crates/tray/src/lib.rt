@@ -1,5 +1,5 @@
-// What a host links: the names, the cards, the single composition, narrowing and the job, for C and Rust. Each function hands its arguments on and has the
-// contract of what it calls. A picture is lent as its words, the binary32 patterns, so that a host passes its float buffer as it is.
+// What a host calls: the names, the cards, the single composition, narrowing and the job. Each function hands its arguments on and has the contract of what
+// it calls. A picture is lent as its words, the binary32 patterns, so that a host passes its float buffer as it is. The crate tray_c exports them to C.
 #![tactic(auto)]
 ghost use Rattle.std.specs.Prelude.{◌≡◌, cond, pos};
 ghost use Rattle.lent.specs.Lent.{before, after};
@@ -28,8 +28,7 @@ fn flag(b: bool) -> u64
 }
 
 // The operator that a name spells: 0 with its number in `operator`; or 3, with `operator` as it was.
-#[unsafe(no_mangle)]
-pub extern "C" fn tray_from_name(name: &[u8], operator: &mut u64) -> u64
+pub fn tray_from_name(name: &[u8], operator: &mut u64) -> u64
     ensures { named result (after operator) ≡ name_of (from_name name.now) (before operator) }
 {
     match names::from_name(name) {
@@ -44,8 +43,7 @@ pub extern "C" fn tray_from_name(name: &[u8], operator: &mut u64) -> u64
 // The card that a text is, read into the layer table and the arguments, lent for the most layers: 0, and both filled; or 12, with the first line that is out of
 // form or one too many (0 for a list of another length), and both as they were. The line, the tray's width, height and channels and the count of layers are
 // written to the last five.
-#[unsafe(no_mangle)]
-pub extern "C" fn tray_read_card(
+pub fn tray_read_card(
     text: &[u8],
     rows: &mut [i64],
     words: &mut [u32],
@@ -72,8 +70,7 @@ pub extern "C" fn tray_read_card(
 }
 
 // One layer on one destination: 0 and the whole picture in `out`; or the number of the first fault, with `out` as it was.
-#[unsafe(no_mangle)]
-pub extern "C" fn tray_compose(
+pub fn tray_compose(
     width: i64,
     height: i64,
     channels: i64,
@@ -94,16 +91,14 @@ pub extern "C" fn tray_compose(
 }
 
 // A picture of four channels narrowed to one, three or four: 0 and the whole output; or 11, with the output as it was.
-#[unsafe(no_mangle)]
-pub extern "C" fn tray_narrow(wanted: i64, input: &[u32], output: &mut [u32]) -> u64
+pub fn tray_narrow(wanted: i64, input: &[u32], output: &mut [u32]) -> u64
     ensures { narrowed result (after output) ≡ narrow_of wanted input.now (before output) }
 {
     narrowing::narrow(wanted, input, output)
 }
 
 // The same as bytes.
-#[unsafe(no_mangle)]
-pub extern "C" fn tray_narrow_bytes(wanted: i64, input: &[u32], output: &mut [u8]) -> u64
+pub fn tray_narrow_bytes(wanted: i64, input: &[u32], output: &mut [u8]) -> u64
     ensures { narrowed result (after output) ≡ narrow_bytes_of wanted input.now (before output) }
 {
     narrowing::narrow_bytes(wanted, input, output)
@@ -112,8 +107,7 @@ pub extern "C" fn tray_narrow_bytes(wanted: i64, input: &[u32], output: &mut [u8
 // A call of a job under its number, allowed so many stores: the number of the first fault, or 0; its layer, the stores made and whether the job is
 // finished (1 or 0) are written to the last three. `work0`, `work1` and `checkpoint`, the position and the job's number, hold the job between calls. A
 // refused call leaves them as they were, and every call the job's number.
-#[unsafe(no_mangle)]
-pub extern "C" fn tray_job(
+pub fn tray_job(
     width: i64,
     height: i64,
     channels: i64,

@@ -3,8 +3,9 @@
 #![tactic(auto)]
 mod replay;
 
-use libc::{STDIN_FILENO, STDOUT_FILENO};
 use replay::judge;
+use std::io;
+use std::io::Read;
 
 // All the lines at once, and the places where their answers end.
 type Text = [u8; 0x20_0000];
@@ -22,51 +23,59 @@ fn no_places() -> Places {
     [0; 0x4000]
 }
 
-fn report(name: &[u8], right: u64, wrong: u64) {
-    io::write_all(STDOUT_FILENO, name);
-    io::write_all(STDOUT_FILENO, b": ");
-    io::print_decimal(STDOUT_FILENO, right);
-    io::write_all(STDOUT_FILENO, b" right, ");
-    io::print_decimal(STDOUT_FILENO, wrong);
-    io::write_all(STDOUT_FILENO, b" wrong\n");
+// Reads until the room is full or the input is at its end; how many bytes.
+fn read_full(input: &mut impl Read, room: &mut [u8]) -> io::Result<usize> {
+    let mut n = 0;
+    for _ in 0..room.len() {
+        let got = input.read(&mut room[n..])?;
+        if got == 0 {
+            return Ok(n);
+        }
+        n += got;
+    }
+    Ok(n)
 }
 
-fn report_first(first_wrong: u64) {
+fn report(rt: HostRuntime, name: &str, right: u64, wrong: u64) -> io::Result<()> {
+    println!(rt; "{name}: {right} right, {wrong} wrong")
+}
+
+fn report_first(rt: HostRuntime, first_wrong: u64) -> io::Result<()> {
     if first_wrong > 0 {
-        io::write_all(STDOUT_FILENO, b"the first wrong line: ");
-        io::print_decimal(STDOUT_FILENO, first_wrong);
-        io::write_all(STDOUT_FILENO, b"\n");
+        println!(rt; "the first wrong line: {first_wrong}")?;
     }
+    Ok(())
 }
 
 // Reads the vectors and counts them; the number of the first wrong line, 0 where none is. Where there is no room for all of them, none is counted.
 fn count(
+    rt: HostRuntime,
     text: &mut Text,
     places: &mut Places,
     right: &mut [u64; KINDS],
     wrong: &mut [u64; KINDS],
-) -> u64 {
-    let n = io::read_full(STDIN_FILENO, text);
+) -> io::Result<u64> {
+    let n = read_full(&mut rt.stdin(), text)?;
     let read: &[u8] = text;
     if n >= read.len() {
-        return 0;
+        return Ok(0);
     }
-    judge(&read[0..n], places, b"FNBCJR!", right, wrong)
+    Ok(judge(&read[0..n], places, b"FNBCJR!", right, wrong))
 }
 
-fn main() {
+fn main(rt: HostRuntime) -> io::Result<()> {
     let mut text = room();
     let mut places = no_places();
     let mut right = [0u64; KINDS];
     let mut wrong = [0u64; KINDS];
-    let first_wrong = count(&mut text, &mut places, &mut right, &mut wrong);
-    report(b"names", right[0], wrong[0]);
-    report(b"narrowings", right[1], wrong[1]);
-    report(b"bytes", right[2], wrong[2]);
-    report(b"compositions", right[3], wrong[3]);
-    report(b"jobs", right[4], wrong[4]);
-    report(b"cards", right[5], wrong[5]);
-    report(b"lines of no kind", right[7], wrong[7]);
-    report(b"spoiled lines", right[6], wrong[6]);
-    report_first(first_wrong);
+    let first_wrong = count(rt, &mut text, &mut places, &mut right, &mut wrong)?;
+    report(rt, "names", right[0], wrong[0])?;
+    report(rt, "narrowings", right[1], wrong[1])?;
+    report(rt, "bytes", right[2], wrong[2])?;
+    report(rt, "compositions", right[3], wrong[3])?;
+    report(rt, "jobs", right[4], wrong[4])?;
+    report(rt, "cards", right[5], wrong[5])?;
+    report(rt, "lines of no kind", right[7], wrong[7])?;
+    report(rt, "spoiled lines", right[6], wrong[6])?;
+    report_first(rt, first_wrong)
 }

@@ -17,23 +17,21 @@ pub enum Exit {
     Refused = 4,
     Busy = 5,
     Storage = 6,
-    Differs = 7,
 }
 
 impl Exit {
-    pub const ALL: [Exit; 8] =
-        [Exit::Done, Exit::Other, Exit::Words, Exit::Stopped, Exit::Refused, Exit::Busy, Exit::Storage, Exit::Differs];
+    pub const ALL: [Exit; 7] =
+        [Exit::Done, Exit::Other, Exit::Words, Exit::Stopped, Exit::Refused, Exit::Busy, Exit::Storage];
 
     pub fn meaning(self) -> &'static str {
         match self {
             Exit::Done => "done; after `run`: the job is finished",
             Exit::Other => "another error",
             Exit::Words => "wrong words on the command line",
-            Exit::Stopped => "not finished: `run` has used up its allowance, or `spot --check` finds no last picture",
+            Exit::Stopped => "`run` has used up its allowance before the job's end",
             Exit::Refused => "the library refused",
             Exit::Busy => "another worker has the job",
             Exit::Storage => "the storage failed while the job ran; the job can be taken up",
-            Exit::Differs => "`spot --check`: the finished picture has another colour there",
         }
     }
 
@@ -130,6 +128,6 @@ mod tests {
 
     #[test]
     fn codes_are_the_documented_ones() {
-        assert_eq!(Exit::ALL.map(|exit| exit as u8), [0, 1, 2, 3, 4, 5, 6, 7]);
+        assert_eq!(Exit::ALL.map(|exit| exit as u8), [0, 1, 2, 3, 4, 5, 6]);
     }
 }

@@ -1,5 +1,5 @@
-//! The command `tray`: makes a job folder from pictures and layers or from a card, runs it, shows it and single pixels of its
-//! picture to come, takes it up, exports its picture.
+//! The command `tray`: makes a job folder from pictures and layers or from a card, runs it, shows it, takes it up, exports its
+//! picture.
 
 mod card;
 mod card_file;
@@ -11,9 +11,7 @@ mod operators;
 mod parts;
 mod progress;
 mod run;
-mod spot;
 mod status;
-mod swatch;
 
 use anyhow::Result;
 use clap::{Parser, Subcommand};
@@ -40,8 +38,6 @@ enum Action {
     Run(run::Run),
     /// Show how far a job is, and its number
     Status(status::Status),
-    /// Show the final colour of one pixel from the job's inputs alone, however far the job is
-    Spot(spot::Spot),
     /// Write a job's picture as PNG, PFM, TIFF or raw words
     Export(export::Export),
     /// Check a card, which is a job as text, or print a job's
@@ -59,7 +55,6 @@ fn act(command: Command) -> Result<Exit> {
         Action::Make(make) => make.make(),
         Action::Run(run) => run.run(),
         Action::Status(status) => status.print(),
-        Action::Spot(spot) => spot.print(),
         Action::Export(export) => export.write(),
         Action::Card(card) => card.act(),
         Action::Operators(operators) => operators.print(),

@@ -35,16 +35,6 @@ pub fn sides(width: usize, height: usize) -> String {
     format!("{width} x {height} pixel{}", if (width, height) == (1, 1) { "" } else { "s" })
 }
 
-/// A text as JSON has it.
-pub fn quoted(text: &str) -> String {
-    let escaped = |c: char| match c {
-        '"' | '\\' => format!("\\{c}"),
-        c if c < ' ' => format!("\\u{:04x}", c as u32),
-        c => c.to_string(),
-    };
-    format!("\"{}\"", text.chars().map(escaped).collect::<String>())
-}
-
 #[cfg(test)]
 mod tests {
     use super::*;
@@ -59,10 +49,5 @@ mod tests {
     fn a_closed_pipe_is_no_error() {
         assert!(heard(Err(ErrorKind::BrokenPipe.into())).is_ok());
         assert!(heard(Err(ErrorKind::Other.into())).is_err());
-    }
-
-    #[test]
-    fn texts_are_quoted() {
-        assert_eq!(quoted("a\"b\\c\n\u{1}é"), "\"a\\\"b\\\\c\\u000a\\u0001é\"");
     }
 }

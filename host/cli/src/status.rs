@@ -5,7 +5,7 @@ use clap::Args;
 use std::path::PathBuf;
 use tray::Window;
 use tray_cli::exit::Exit;
-use tray_cli::say::{count, quoted, say, sides};
+use tray_cli::say::{count, say, sides};
 use tray_folder::Folder;
 
 #[derive(Args)]
@@ -94,4 +94,24 @@ fn json(folder: &Folder, state: &State) -> Result<String> {
         \"mark\":{mark},\"total\":{total},\"finished\":{finished},\"worker\":{worker},\
         \"phase\":{phase},\"layer\":{layer},\"pixels\":{pixels},\"windows\":[{windows}],\"job_number\":\"{number}\"}}"
     ))
+}
+
+/// A text as JSON has it.
+fn quoted(text: &str) -> String {
+    let escaped = |c: char| match c {
+        '"' | '\\' => format!("\\{c}"),
+        c if c < ' ' => format!("\\u{:04x}", c as u32),
+        c => c.to_string(),
+    };
+    format!("\"{}\"", text.chars().map(escaped).collect::<String>())
+}
+
+#[cfg(test)]
+mod tests {
+    use super::*;
+
+    #[test]
+    fn texts_are_quoted() {
+        assert_eq!(quoted("a\"b\\c\n\u{1}é"), "\"a\\\"b\\\\c\\u000a\\u0001é\"");
+    }
 }

@@ -8,7 +8,6 @@ use crate::checkpoint::{place, Checkpoint, Pictures};
 use crate::description::{Description, Edition, INPUTS};
 use crate::digest::digest;
 use crate::error::{At, Error, Result};
-use crate::inputs::JobInputs;
 use crate::list::List;
 use crate::system::{bytes, Element};
 use crate::{held, storage, system};
@@ -22,7 +21,7 @@ use tray::{Fault, Inputs, JobNumber, Memory, Refusal, Window, ARGUMENTS, COLUMNS
 pub(crate) const WORK: [&str; 2] = ["work0", "work1"];
 const MARK: &str = "mark";
 pub(crate) const CHECKPOINT: &str = "checkpoint";
-pub(crate) const JOB: &str = "job";
+const JOB: &str = "job";
 const LOCK: &str = "lock";
 
 /// What a worker writes, and what it rests on.
@@ -46,13 +45,8 @@ impl Folder {
     /// Reads a folder's description. Its files must be its own: regular ones, with no name besides, and no two the same, as a
     /// bind mount makes them without a name; since a job's lists share no memory, neither with each other nor with another job's.
     pub fn open(path: &Path) -> Result<Self> {
-        Folder::open_with(path, &[&GIVEN[..], &MEMORY].concat())
-    }
-
-    /// The same, where these files alone are looked at.
-    pub(crate) fn open_with(path: &Path, names: &[&str]) -> Result<Self> {
         let mut files = vec![];
-        for name in names {
+        for name in GIVEN.iter().chain(&MEMORY) {
             let file = path.join(name);
             let data = match fs::symlink_metadata(&file) {
                 Err(error) if *name == JOB && error.kind() == ErrorKind::NotFound => {
@@ -301,14 +295,6 @@ impl Folder {
     /// The sources' samples.
     pub fn samples(&self) -> Result<List<u32>> {
         self.input(3, self.job.samples)
-    }
-
-    /// The four, mapped.
-    pub fn inputs(&self) -> Result<JobInputs> {
-        let [width, height, channels, layers] =
-            [self.width(), self.height(), self.channels(), self.layers()].map(|n| n as i64);
-        let (dst, table, args, samples) = (self.dst()?, self.table()?, self.args()?, self.samples()?);
-        Ok(JobInputs { width, height, channels, layers, dst, table, args, samples })
     }
 
     fn input<T: Element>(&self, k: usize, length: usize) -> Result<List<T>> {

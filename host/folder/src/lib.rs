@@ -9,8 +9,6 @@
 //! boot, on another mount or in a copy of the folder the mapped mark counts for nothing: the job is taken up at the
 //! checkpoint if the digest fits what the files hold, and otherwise at its beginning.
 //!
-//! The inputs can be had alone ([`JobInputs`]), for what is worked out from them while a worker has the job.
-//!
 //! For Linux: it asks the kernel for the boot. No dependencies besides the crate `tray`; all unsafe code in src/system.rs.
 #![deny(missing_docs)]
 
@@ -24,7 +22,6 @@ mod digest;
 mod error;
 mod folder;
 mod held;
-mod inputs;
 mod list;
 mod replace;
 mod storage;
@@ -33,7 +30,6 @@ mod worker;
 
 pub use error::{Error, Result};
 pub use folder::{Folder, Lock};
-pub use inputs::JobInputs;
 pub use list::List;
 pub use replace::replace_file;
 pub use system::on_storage_failure;

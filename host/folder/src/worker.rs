@@ -4,11 +4,10 @@
 use crate::checkpoint::{place, Checkpoint, Pictures};
 use crate::error::{At, Error, Result};
 use crate::folder::{Folder, Lock, CHECKPOINT, WORK};
-use crate::inputs::JobInputs;
 use crate::list::List;
 use crate::{held, storage, system};
 use std::fs::{self, OpenOptions};
-use tray::{Fault, JobNumber, Memory, Progress, Refusal};
+use tray::{Fault, Inputs, JobNumber, Memory, Progress, Refusal};
 
 /// How much of a job a loss of power takes back.
 #[derive(Clone, Copy, Debug, PartialEq, Eq)]
@@ -33,7 +32,10 @@ pub enum TakenUp {
 pub struct Worker {
     folder: Folder,
     durable: Durable,
-    inputs: JobInputs,
+    dst: List<u32>,
+    table: Vec<i64>,
+    args: List<u32>,
+    samples: List<u32>,
     work: [List<u32>; 2],
     mark: List<u64>,
     /// What the storage has.
@@ -57,7 +59,7 @@ impl Worker {
         let mark = folder.mark()?;
         folder.is_own(JobNumber(mark.list()[1]))?;
         let here = folder.here()?;
-        let inputs = folder.inputs()?;
+        let (dst, table, args, samples) = (folder.dst()?, folder.table()?, folder.args()?, folder.samples()?);
         let work = |k: usize| {
             let path = folder.at(WORK[k]);
             let list = List::write(&path, 4 * folder.pixels())?;
@@ -71,7 +73,8 @@ impl Worker {
         storage::sync_folder(folder.path()).at(folder.path())?;
         let checkpoint = folder.checkpoint()?;
         let taken_up = TakenUp::Mark;
-        let mut worker = Worker { folder, durable, inputs, work, mark, checkpoint, here, taken_up, _lock: lock };
+        let mut worker =
+            Worker { folder, durable, dst, table, args, samples, work, mark, checkpoint, here, taken_up, _lock: lock };
         worker.take_up()?;
         Ok(worker)
     }
@@ -126,10 +129,19 @@ impl Worker {
         if self.mark() < self.folder.total() {
             self.keep_a_checkpoint(phase * pixels)?;
         }
+        let inputs = Inputs {
+            width: self.folder.width() as i64,
+            height: self.folder.height() as i64,
+            channels: self.folder.channels() as i64,
+            dst: self.dst.list(),
+            layers: self.folder.layers() as i64,
+            table: &self.table,
+            args: self.args.list(),
+            samples: self.samples.list(),
+        };
         let [work0, work1] = &mut self.work;
         let memory = Memory { work0: work0.list_mut(), work1: work1.list_mut(), mark: self.mark.list_mut() };
-        let called =
-            tray::job(&self.inputs.lent(), self.folder.number(), allowance.min(5 * (pixels - written)), memory);
+        let called = tray::job(&inputs, self.folder.number(), allowance.min(5 * (pixels - written)), memory);
         called.map_err(|error| self.refused(error))
     }
 

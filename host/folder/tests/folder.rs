@@ -8,8 +8,8 @@ use std::path::{Path, PathBuf};
 use std::sync::atomic::{AtomicUsize, Ordering};
 use std::thread;
 use std::time::Duration;
-use tray::{spot, Inputs, JobNumber, Layer, Source, Stack, Window};
-use tray_folder::{Durable, Error, Folder, JobInputs, TakenUp, Worker};
+use tray::{Inputs, JobNumber, Layer, Source, Stack, Window};
+use tray_folder::{Durable, Error, Folder, TakenUp, Worker};
 
 const WIDTH: usize = 20;
 const HEIGHT: usize = 13;
@@ -238,8 +238,7 @@ fn changed_inputs() {
         let read =
             [folder.dst().map(drop), folder.table().map(drop), folder.args().map(drop), folder.samples().map(drop)];
         let refused: Vec<String> = read.into_iter().filter_map(|read| read.err()).map(|e| e.to_string()).collect();
-        assert_eq!(refused, [&said[..]]);
-        assert_eq!(says(JobInputs::open(folder.path())), said);
+        assert_eq!(refused, [said]);
         change_byte(&path, 40);
     }
     assert_eq!(finish(&folder), whole);
@@ -256,42 +255,6 @@ fn inputs_as_they_were_given() {
     assert_eq!((rows.len(), folder.args().unwrap().list()), (LAYERS, &[0; LAYERS * tray::ARGUMENTS][..]));
     assert_eq!(folder.samples().unwrap().list(), folder.dst().unwrap().list());
     assert_eq!(folder.dst().unwrap().list().len() as u64, 4 * PIXELS);
-}
-
-/// The colours of a row's pixels by the inputs alone.
-fn row(path: &Path, y: usize) -> Vec<u32> {
-    let inputs = JobInputs::open(path).unwrap();
-    (0..WIDTH).flat_map(|x| spot(&inputs.lent(), x as i64, y as i64).unwrap().colour).collect()
-}
-
-/// A spot has the finished picture's colour at each mark, while a worker has the job; and whatever is missing or damaged of what
-/// workers write. It changes nothing in the folder.
-#[test]
-fn spots_by_the_inputs_alone() {
-    let room = room("spots");
-    let whole = finish(&make(&room.join("whole")));
-    let wanted = |y: usize| &whole[4 * WIDTH * y..4 * WIDTH * (y + 1)];
-    let folder = make(&room.join("job"));
-    let mut first = worker(&folder, Durable::Phase);
-    for (y, marks) in MARKS.windows(2).enumerate() {
-        let before = memory(&folder);
-        assert_eq!(row(folder.path(), y), wanted(y), "mark {}", marks[0]);
-        assert_eq!(memory(&folder), before, "something was written at mark {}", marks[0]);
-        go_on(&mut first, marks[1] - marks[0]);
-    }
-    assert_eq!(row(folder.path(), 9), wanted(9));
-    drop(first);
-    for (y, name) in ["mark", "work0", "work1", "lock", "checkpoint", "held", "names"].iter().enumerate() {
-        let copied = copy(folder.path(), &room.join(name));
-        let file = copied.path().join(name);
-        let _ = fs::remove_file(&file);
-        assert_eq!(row(copied.path(), y), wanted(y), "without {name}");
-        assert!(!file.exists(), "{name} was written");
-        fs::write(&file, "another").unwrap();
-        assert_eq!(row(copied.path(), y), wanted(y), "with another {name}");
-        assert_eq!(fs::read(&file).unwrap(), b"another", "{name} was written");
-    }
-    assert!(says(JobInputs::open(&room.join("none"))).ends_with(": no job folder"));
 }
 
 /// An input that changes while a worker has it: what was made of it is never called finished, nor taken up.
@@ -505,12 +468,8 @@ fn links_are_refused() {
                 true => fs::hard_link(&other, path.join(name)).unwrap(),
                 false => symlink(&other, path.join(name)).unwrap(),
             }
-            let said = says(Folder::open(&path));
-            assert!(said.ends_with(&format!("{name}: a job's file is a regular one with no other name, and no link")));
-            match ["dst", "samples", "job"].contains(name) {
-                true => assert_eq!(says(JobInputs::open(&path)), said),
-                false => assert!(JobInputs::open(&path).is_ok(), "{name}"),
-            }
+            assert!(says(Folder::open(&path))
+                .ends_with(&format!("{name}: a job's file is a regular one with no other name, and no link")));
         }
     }
 }
@@ -728,7 +687,6 @@ fn jobs_of_older_editions() {
             assert_eq!((folder.position().unwrap(), folder.is_finished().unwrap()), (position, position == TOTAL));
             assert_eq!((folder.number(), folder.windows().unwrap()), (JobNumber(0), edition.windows.to_vec()));
             assert_eq!(folder.table().unwrap(), new.table().unwrap());
-            assert_eq!(JobInputs::open(folder.path()).unwrap().lent().table, new.table().unwrap());
             // A worker that is gone, another boot, one to the end.
             let mut first = worker(&folder, Durable::Phase);
             mark(position);

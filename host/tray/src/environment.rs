@@ -45,8 +45,7 @@ const EVEN_AFTER_HALF: u32 = HALF + 2;
 const TIE: u32 = 0x3300_0000;
 
 /// Sees by a composition of one pixel whether the calling thread computes as the library needs it: [`crate::compose`],
-/// [`crate::narrow`], [`crate::narrow_bytes`], [`crate::job`] and [`crate::spot`] ask this first. The answer is for the calling
-/// thread.
+/// [`crate::narrow`], [`crate::narrow_bytes`] and [`crate::job`] ask this first. The answer is for the calling thread.
 ///
 /// Red is the sum of the least subnormal number and itself. Green and blue are ties: a half is even, and rounding up leaves
 /// it; the float after it is odd, and rounding down or towards zero stays there.

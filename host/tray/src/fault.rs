@@ -35,13 +35,11 @@ pub enum Fault {
     Window = 13,
     /// The mark's second number is not the call's job number.
     JobNumber = 14,
-    /// A spot that lies off the destination, or one of a job with more than four map layers (Displace, Distort).
-    Spot = 15,
 }
 
 impl Fault {
     /// All faults, in the order of their numbers.
-    pub const ALL: [Fault; 15] = [
+    pub const ALL: [Fault; 14] = [
         Fault::Stack,
         Fault::Tray,
         Fault::Operator,
@@ -56,10 +54,9 @@ impl Fault {
         Fault::Card,
         Fault::Window,
         Fault::JobNumber,
-        Fault::Spot,
     ];
 
-    /// The library's number, 1 to 15.
+    /// The library's number, 1 to 14.
     pub fn number(self) -> u64 {
         self as u64
     }
@@ -81,7 +78,6 @@ impl Fault {
             Fault::Card => "CARD",
             Fault::Window => "WINDOW",
             Fault::JobNumber => "JOB NUMBER",
-            Fault::Spot => "SPOT",
         }
     }
 
@@ -102,7 +98,6 @@ impl Fault {
             Fault::Card => "a line out of form, or a layer too many",
             Fault::Window => "a window's left, top, width and height are 0 to 2048",
             Fault::JobNumber => "the mark's job number is not the call's",
-            Fault::Spot => "a spot lies on the destination, and its job has at most 4 map layers (displace, distort)",
         }
     }
 
@@ -115,7 +110,7 @@ impl Fault {
     pub(crate) fn check(number: u64) -> Result<(), Fault> {
         match number {
             0 => Ok(()),
-            n => Err(*Fault::ALL.get(n as usize - 1).expect("the library answers 0 to 15")),
+            n => Err(*Fault::ALL.get(n as usize - 1).expect("the library answers 0 to 14")),
         }
     }
 }
@@ -128,7 +123,7 @@ impl fmt::Display for Fault {
 
 impl std::error::Error for Fault {}
 
-/// A refused call of a job, or of a spot of it: the fault, and the layer that has it, counted from 0 (0 where none is concerned).
+/// A refused job call: the fault, and the layer that has it, counted from 0 (0 where none is concerned).
 #[derive(Clone, Copy, Debug, PartialEq, Eq, Hash)]
 pub struct Refusal {
     /// The first fault.

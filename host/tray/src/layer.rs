@@ -15,9 +15,6 @@ pub const ARGUMENTS: usize = 4;
 /// The most layers of a job.
 pub const LAYERS: usize = 16;
 
-/// The most map layers ([`Operator::is_map`]) of a job whose spot is asked ([`spot`](crate::spot)).
-pub const MAPS: usize = 4;
-
 /// The longest side of a destination or a source, and the largest number of a window.
 pub const SIDE: u64 = 2048;
 

@@ -26,8 +26,7 @@
 //! call may be cut at any moment, by SIGKILL for instance: the next call with the same inputs, the same number and the same
 //! memory takes the job up at its position, and a call with a number that differs is refused. Its caller sees to two things:
 //! the stopped worker is gone before the next call starts, and nothing else writes the job's memory until it is finished.
-//! examples/job.rs is a host with such a job. The final colour of one pixel ([`spot`]) is had from the inputs alone, however far
-//! the job is.
+//! examples/job.rs is a host with such a job.
 //!
 //! A layer writes within its window ([`Window`]), and a pixel off it keeps its bits. A card ([`Card`]) is a job as text, which
 //! people keep and edit.
@@ -45,7 +44,6 @@ mod layer;
 mod memory;
 mod operator;
 pub mod raw;
-mod spot;
 mod window;
 
 pub use card::Card;
@@ -53,11 +51,10 @@ pub use environment::{environment, Environment};
 pub use fault::{CardFault, Error, Fault, NoCard, Refusal};
 pub use gravity::{Gravity, UnknownGravity};
 pub use job::{begin, job, phase, total, JobNumber, Progress};
-pub use layer::{Flags, Inputs, Layer, Source, Stack, ARGUMENTS, COLUMNS, LAYERS, MAPS, OFFSET, SIDE};
+pub use layer::{Flags, Inputs, Layer, Source, Stack, ARGUMENTS, COLUMNS, LAYERS, OFFSET, SIDE};
 pub use memory::Memory;
 pub use operator::{from_name, Argument, ArgumentDefault, Operator};
 pub use raw::{floats, floats_mut, words, words_mut};
-pub use spot::{spot, Spot};
 pub use window::Window;
 
 /// One layer on one destination. `out` has four words a pixel of the destination.

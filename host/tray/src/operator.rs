@@ -221,12 +221,6 @@ impl Operator {
     pub fn carried(self) -> bool {
         !matches!(self, Operator::Interpolate | Operator::Blur)
     }
-
-    /// Whether it takes each pixel from places of the destination that the source's colours say: Displace and Distort, whose
-    /// layers are map layers. Any other reads the pixel's own place alone.
-    pub fn is_map(self) -> bool {
-        matches!(self, Operator::Displace | Operator::Distort)
-    }
 }
 
 /// The operator that `name` spells, as the library reads it: `-`, `_`, space and the difference of capitals do not count.

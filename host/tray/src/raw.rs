@@ -51,28 +51,6 @@ extern "C" {
         stores: *mut u64,
         finished: *mut u64,
     ) -> u64;
-    fn tray_spot(
-        width: i64,
-        height: i64,
-        channels: i64,
-        dst: *const u32,
-        dst_length: usize,
-        layers: i64,
-        table: *const i64,
-        table_length: usize,
-        args: *const u32,
-        args_length: usize,
-        samples: *const u32,
-        samples_length: usize,
-        x: i64,
-        y: i64,
-        layer: *mut u64,
-        red: *mut u32,
-        green: *mut u32,
-        blue: *mut u32,
-        alpha: *mut u32,
-        reads: *mut u64,
-    ) -> u64;
     fn tray_read_card(
         text: *const u8,
         text_length: usize,
@@ -161,23 +139,6 @@ pub(crate) fn begin(mark: &mut [u64; 2], number: u64) {
         ptr::write_volatile(position, 0);
         ptr::write_volatile(job_number, number);
     }
-}
-
-/// What `tray_spot` answers besides its number: each call writes all six, with 0 in a refusal but for the layer.
-#[derive(Clone, Copy, Debug, Default, PartialEq, Eq)]
-pub struct SpotAnswers {
-    /// The layer at fault, counted from 0; 0 where none is concerned.
-    pub layer: u64,
-    /// The words of the spot's red, green, blue and alpha.
-    pub colour: [u32; 4],
-    /// How many pixels of the destination were read, one as often as it was.
-    pub reads: u64,
-}
-
-/// `tray_spot`: the answer is the fault's number.
-pub fn spot(inputs: &Inputs, x: i64, y: i64, answers: &mut SpotAnswers) -> u64 {
-    let SpotAnswers { layer, colour: [red, green, blue, alpha], reads } = answers;
-    unsafe { with_inputs!(tray_spot, inputs, layers; x, y, layer, red, green, blue, alpha, reads) }
 }
 
 /// What `tray_read_card` answers besides its number: each call writes all five.

@@ -420,7 +420,7 @@ fn samples_as_words() {
 #[test]
 fn faults_by_number_and_word() {
     let numbers: Vec<u64> = Fault::ALL.iter().map(|fault| fault.number()).collect();
-    assert_eq!(numbers, (1..=15).collect::<Vec<u64>>());
+    assert_eq!(numbers, (1..=14).collect::<Vec<u64>>());
     let refusal = Refusal { fault: Fault::Operator, layer: 2 };
     assert_eq!(refusal.to_string(), "refused: 3 OPERATOR in layer 2: no such operator");
     assert!(Fault::Tray.to_string().starts_with("refused: 2 TRAY: "));
@@ -430,10 +430,6 @@ fn faults_by_number_and_word() {
     let refusal = Refusal { fault: Fault::JobNumber, layer: 0 };
     assert_eq!(refusal.to_string(), "refused: 14 JOB NUMBER: the mark's job number is not the call's");
     assert_eq!(JobNumber(0xab).to_string(), "00000000000000ab");
-    let refusal = Refusal { fault: Fault::Spot, layer: 0 };
-    let said =
-        "refused: 15 SPOT: a spot lies on the destination, and its job has at most 4 map layers (displace, distort)";
-    assert_eq!(refusal.to_string(), said);
     let with_layer: Vec<u64> =
         Fault::ALL.iter().filter(|fault| fault.has_layer()).map(|fault| fault.number()).collect();
     assert_eq!(with_layer, [3, 4, 5, 6, 7, 8, 13]);

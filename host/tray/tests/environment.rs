@@ -3,7 +3,7 @@
 #![cfg(target_arch = "x86_64")]
 
 use std::arch::asm;
-use tray::{compose, environment, job, narrow, narrow_bytes, spot};
+use tray::{compose, environment, job, narrow, narrow_bytes};
 use tray::{Environment, Error, Inputs, JobNumber, Layer, Memory, Operator, Source, Stack};
 
 /// As a program starts: no trap, nothing flushed, rounding to nearest.
@@ -45,13 +45,11 @@ fn each_call_is_refused() {
         let memory = Memory { work0, work1, mark: &mut mark };
         let called = under(mxcsr, || job(&inputs, JobNumber(0), u64::MAX, memory));
         assert_eq!(called, Err(Error::Environment(environment)));
-        assert_eq!(under(mxcsr, || spot(&inputs, 0, 0)), Err(Error::Environment(environment)));
         assert_eq!((out, work, gray, bytes, mark), ([7; 4], [[7; 4]; 2], [7], [7; 4], [0; 2]), "something was written");
     }
     let mut out = [0; 4];
     assert_eq!(compose(&inputs, &mut out), Ok(()));
     assert_eq!(out, [2, 4, 6, 1.0f32.to_bits()]);
-    assert_eq!(spot(&inputs, 0, 0).map(|spot| spot.colour), Ok(out));
 }
 
 #[test]

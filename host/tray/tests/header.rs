@@ -1,7 +1,7 @@
 //! include/tray.h and this crate say the same: operators, gravities, faults, flags, limits and the version.
 
 use std::collections::HashMap;
-use tray::{Fault, Flags, Gravity, Operator, ARGUMENTS, COLUMNS, LAYERS, MAPS, OFFSET, SIDE};
+use tray::{Fault, Flags, Gravity, Operator, ARGUMENTS, COLUMNS, LAYERS, OFFSET, SIDE};
 
 const HEADER: &str = include_str!("../../../include/tray.h");
 
@@ -35,7 +35,6 @@ fn the_same_constants() {
         ("TRAY_OPERATORS".into(), Operator::ALL.len().to_string()),
         ("TRAY_MAX_LAYERS".into(), LAYERS.to_string()),
         ("TRAY_MAX_ARGUMENTS".into(), ARGUMENTS.to_string()),
-        ("TRAY_MAX_MAPS".into(), MAPS.to_string()),
         ("TRAY_MAX_SIDE".into(), SIDE.to_string()),
         ("TRAY_MAX_OFFSET".into(), OFFSET.to_string()),
         ("TRAY_VERSION".into(), format!("{:?}", env!("CARGO_PKG_VERSION"))),

@@ -1,5 +1,5 @@
-//! stream COUNT SEED: COUNT random compositions, COUNT / 100 jobs of several layers and several calls each, the spots of
-//! COUNT / 100 others, COUNT / 10 narrowings and COUNT / 10 names, put to the compiled Rust with document 01's model around it and
+//! stream COUNT SEED: COUNT random compositions, COUNT / 100 jobs of several layers and several calls each,
+//! COUNT / 10 narrowings and COUNT / 10 names, put to the compiled Rust with document 01's model around it and
 //! to the other side: the static library that the feature `tray` links, or else the restatement. Every
 //! word, answer, count and untouched word is compared. The first mismatch is shrunk, and printed as a line
 //! that the vectors' program can replay. The counts at the end say what windows, marks and job numbers had to do
@@ -7,9 +7,6 @@
 //!
 //! stream jobs COUNT SEED: instead of these COUNT random jobs, each with lists of calls of which some have wrong job
 //! numbers, other marks or other inputs.
-//!
-//! stream spots COUNT SEED: instead COUNT random jobs, of each of which every pixel is asked as a spot, and some spots off the
-//! tray.
 //!
 //! stream grays COUNT SEED: instead COUNT random pixels, narrowed to one channel as words and as bytes.
 //!
@@ -19,15 +16,14 @@
 
 use oracle::compare::{agrees, answered, expected};
 use oracle::lines::{Case, FILL, FILL_INTEGER, Outcome, Request, alone};
-use oracle::model::{Fault, Reference};
+use oracle::model::Reference;
 use oracle::name_texts;
 use oracle::ours;
 use oracle::random::Random;
 use oracle::reference::is_map;
-use oracle::request::{Answer, COLUMNS, Call, Job, Memory, Side, SpotAnswer, WHOLE, WINDOW, Window};
+use oracle::request::{Answer, COLUMNS, Call, Job, Memory, Side, WHOLE, WINDOW, Window};
 use oracle::restated::{Reading, Restated};
 use oracle::shrink::shrink;
-use oracle::spot::{self, Spots, Tally};
 use oracle::window;
 use std::fmt::Debug;
 
@@ -50,7 +46,6 @@ struct Counts {
     layers: u64,
     windows: Windows,
     marks: Marks,
-    spots: SpotCounts,
 }
 
 /// How much windows had to do with it.
@@ -169,51 +164,6 @@ impl Marks {
     }
 }
 
-/// What was asked of spots, and what the jobs were like.
-#[derive(Default)]
-struct SpotCounts {
-    jobs: u64,
-    spots: u64,
-    /// Refused by the job's own faults; by 15 off the tray, and for the map layers.
-    refused: u64,
-    off: u64,
-    maps: u64,
-    /// Spots without a read of the tray, and the largest count of reads.
-    unread: u64,
-    most: u64,
-    /// Jobs without a fault, by their map layers.
-    jobs_of_maps: [u64; 5],
-    tally: Tally,
-}
-
-impl SpotCounts {
-    fn job(&mut self, job: &Job, spots: &Spots) {
-        self.jobs += 1;
-        if spots.fault.is_none() {
-            self.jobs_of_maps[spot::maps(job)] += 1;
-        }
-        let (all, tally) = (&mut self.tally, &spots.tally);
-        all.kept += tally.kept;
-        all.ended += tally.ended;
-        all.mapped += tally.mapped;
-        all.own += tally.own;
-        all.coinciding += tally.coinciding;
-    }
-
-    fn spot(&mut self, answer: &SpotAnswer, fault: Option<Fault>) {
-        self.spots += 1;
-        match (answer.number, fault) {
-            (0, _) => {
-                self.unread += (answer.reads == 0) as u64;
-                self.most = self.most.max(answer.reads);
-            }
-            (15, None) => self.off += 1,
-            (15, _) => self.maps += 1,
-            _ => self.refused += 1,
-        }
-    }
-}
-
 struct Stream {
     side: Box<dyn Side>,
     counts: Counts,
@@ -223,16 +173,11 @@ impl Stream {
     /// Compares one request, counts it, and hands back the reference's answer.
     fn compare(&mut self, request: Request) -> Outcome {
         let case = expected(request);
-        self.judge(&case);
+        if !agrees(&*self.side, &case) {
+            self.report(case);
+        }
         self.count(&case);
         case.expected
-    }
-
-    /// Ends with a report where the other side answers a case otherwise.
-    fn judge(&self, case: &Case) {
-        if !agrees(&*self.side, case) {
-            self.report(case.clone());
-        }
     }
 
     fn count(&mut self, case: &Case) {
@@ -267,9 +212,7 @@ impl Stream {
     }
 
     /// Requests of every kind.
-    fn requests(&mut self, count: u64, seed: u64) {
-        // Spots are drawn from a sequence of their own, so that the others are the same with and without them.
-        let (random, spots) = (&mut Random::new(seed), &mut Random::new(!seed));
+    fn requests(&mut self, count: u64, random: &mut Random) {
         for i in 0..count {
             self.compare(random.composition());
             if i % 10 == 0 {
@@ -278,7 +221,6 @@ impl Stream {
             }
             if i % 100 == 0 {
                 self.job(random);
-                self.spots_of_job(spots);
             }
         }
     }
@@ -295,24 +237,6 @@ impl Stream {
     fn jobs(&mut self, count: u64, random: &mut Random) {
         for _ in 0..count {
             self.job(random);
-        }
-    }
-
-    /// The spots of a job, whose last picture is made once for all of them.
-    fn spots_of_job(&mut self, random: &mut Random) {
-        let job = random.spot_job();
-        let spots = Spots::of(&job);
-        self.counts.spots.job(&job, &spots);
-        for (x, y) in random.spots(&job) {
-            let answer = spots.at(x, y);
-            self.judge(&Case { request: Request::Spot { job: job.clone(), x, y }, expected: Outcome::Spot(answer) });
-            self.counts.spots.spot(&answer, spots.fault);
-        }
-    }
-
-    fn spots(&mut self, count: u64, random: &mut Random) {
-        for _ in 0..count {
-            self.spots_of_job(random);
         }
     }
 
@@ -383,19 +307,19 @@ fn told<T: PartialEq + Debug>(list: &[T], fill: T) -> String {
 /// What is asked, if it is not requests of every kind; and a count and a seed, which `names` has not.
 fn words() -> Option<(Option<&'static str>, [u64; 2])> {
     let words: Vec<String> = std::env::args().skip(1).collect();
-    let kinds = ["jobs", "spots", "grays", "cards", "names"];
+    let kinds = ["jobs", "grays", "cards", "names"];
     let kind = kinds.into_iter().find(|kind| words.first().is_some_and(|word| word == kind));
     let numbers = words[kind.is_some() as usize..].iter().map(|word| word.parse().ok());
     match (kind, &numbers.collect::<Option<Vec<u64>>>()?[..]) {
         (Some("names"), []) => Some((kind, [0; 2])),
-        (None | Some("jobs" | "spots" | "grays" | "cards"), &[count, seed]) => Some((kind, [count, seed])),
+        (None | Some("jobs" | "grays" | "cards"), &[count, seed]) => Some((kind, [count, seed])),
         _ => None,
     }
 }
 
 fn main() {
     let Some((kind, [count, seed])) = words() else {
-        eprintln!("stream [jobs | spots | grays | cards] COUNT SEED, or stream names");
+        eprintln!("stream [jobs | grays | cards] COUNT SEED, or stream names");
         std::process::exit(2)
     };
     let (side, name): (Box<dyn Side>, _) = match ours::linked() {
@@ -406,11 +330,10 @@ fn main() {
     let mut stream = Stream { side, counts: Counts::default() };
     match kind {
         Some("jobs") => stream.jobs(count, &mut random),
-        Some("spots") => stream.spots(count, &mut random),
         Some("grays") => stream.grays(count, &mut random),
         Some("cards") => stream.cards(count, &mut random),
         Some(_) => stream.names(),
-        None => stream.requests(count, seed),
+        None => stream.requests(count, &mut random),
     }
     let judge = match kind {
         Some("cards") => "document 02's card",
@@ -422,7 +345,6 @@ fn main() {
     let c = stream.counts;
     match kind {
         Some("jobs") => report_jobs(&c),
-        Some("spots") => report_spots(&c.spots),
         Some("grays") => println!("pixels narrowed to one channel {}, each as a word and as a byte", c.grays),
         Some("cards") => println!("texts {} ({} accepted, with {} layers)", c.cards, c.accepted_cards, c.layers),
         Some(_) => report_names(&c),
@@ -449,18 +371,6 @@ fn report_jobs(c: &Counts) {
     );
 }
 
-fn report_spots(s: &SpotCounts) {
-    println!("spots {} of {} jobs; of those accepted {:?} with 0 to 4 map layers", s.spots, s.jobs, s.jobs_of_maps);
-    println!("refused by 15: {} off the tray, {} for the map layers; by the job's faults {}", s.off, s.maps, s.refused);
-    println!("without a read {}, most reads {}", s.unread, s.most);
-    let t = &s.tally;
-    println!(
-        "their layers' pixels: not written {}, by Src or Clear with all channels on {}, by maps {} ({} with a channel off, \
-         {} with neighbours that coincide)",
-        t.kept, t.ended, t.mapped, t.own, t.coinciding
-    );
-}
-
 fn report_requests(c: &Counts) {
     println!("compositions {} ({} refused, {} pixels)", c.compositions, c.refused, c.pixels);
     report_jobs(c);
@@ -472,5 +382,4 @@ fn report_requests(c: &Counts) {
         w.off, w.kept, w.calls
     );
     println!("refused by 13: compositions {}, calls {}", w.refused, w.refused_calls);
-    report_spots(&c.spots);
 }

@@ -16,8 +16,6 @@
 //! J width height channels DST layers TABLE ARGS SAMPLES WORK0 WORK1 MARK CALLS
 //!     {number layer stores finished mark} for each call, then WORK0 WORK1 MARK
 //! R TEXT table args                                       number line width height channels layers TABLE ARGS
-//! S width height channels DST layers TABLE ARGS SAMPLES x y
-//!                                                         number layer red green blue alpha reads
 //! ```
 //!
 //! What is asked stands first, then what must be answered; oracle/README.md says more of each.
@@ -101,7 +99,6 @@ fn lengths(request: &Request, seen: &mut impl FnMut(&'static str, usize)) {
             seen("card table", *table);
             seen("card args", *args);
         }
-        Request::Spot { job, .. } => lists(job, seen),
     }
 }
 

@@ -16,18 +16,14 @@ const WINDOW_BOUNDS: [(Bound, Bound); 4] = [
 ];
 
 impl Reading {
-    /// By how much a bound is misread as too strict.
-    pub fn moved(self, bound: Bound) -> i64 {
-        match self.wrong {
+    /// `least <= n <= most`, each end a bound that may be misread by one.
+    fn within(self, n: i64, (low, least): (Bound, i64), (high, most): (Bound, i64)) -> bool {
+        let moved = |bound: Bound| match self.wrong {
             Some(Wrong::Strict(other)) if other == bound => 1,
             Some(Wrong::Loose(other)) if other == bound => -1,
             _ => 0,
-        }
-    }
-
-    /// `least <= n <= most`, each end a bound that may be misread by one.
-    pub fn within(self, n: i64, (low, least): (Bound, i64), (high, most): (Bound, i64)) -> bool {
-        least + self.moved(low) <= n && n <= most - self.moved(high)
+        };
+        least + moved(low) <= n && n <= most - moved(high)
     }
 
     fn channels(self, n: i64, two: Wrong) -> bool {

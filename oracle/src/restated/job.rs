@@ -1,7 +1,7 @@
 //! An accepted call, one store after the other: entry e of the store list belongs to phase e / 5N, to its
 //! pixel (e mod 5N) / 5 and there to the channel or the mark e mod 5.
 
-use super::place::{Beneath, Row, Words};
+use super::place::{Beneath, Row};
 use super::window::holds;
 use super::wrong::{Reading, Wrong};
 use crate::request::{Answer, Job, Memory, WHOLE};
@@ -38,7 +38,7 @@ impl Stores<'_> {
             Some(Wrong::MapReadsWritten) if row.op.is_map() => &memory.work[self.target(phase)],
             _ => &memory.work[self.target(phase - 1)],
         };
-        let over = |words| Beneath { width: self.job.width, height: self.job.height, words: Words::All(words) };
+        let over = |words| Beneath { width: self.job.width, height: self.job.height, words };
         let (x, y) = (i % self.job.width, i / self.job.width);
         match reading.wrong {
             Some(Wrong::WindowShowsTray) if self.off_window(phase, i) => over(&self.widened).at(x, y),

@@ -2,7 +2,7 @@
 //! by itself.
 
 use super::operator::Op;
-use super::place::{Beneath, Row, Words};
+use super::place::{Beneath, Row};
 use super::window::holds;
 use super::wrong::{Reading, Wrong};
 use crate::request::{ARGUMENTS, COLUMNS, Job, WHOLE, WINDOW, floats};
@@ -42,7 +42,7 @@ impl Reading {
     /// A single composition without a fault.
     pub fn single(self, job: &Job, out: &mut [u32]) {
         let words = self.widened_dst(job);
-        let beneath = Beneath { width: job.width, height: job.height, words: Words::All(&words) };
+        let beneath = Beneath { width: job.width, height: job.height, words: &words };
         let mut row = self.layer(job, 0);
         if self.is(Wrong::WindowNotSingle) {
             row.window = WHOLE;

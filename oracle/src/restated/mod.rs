@@ -1,6 +1,6 @@
 //! Document 01 worked out a second time, with no line of the Rust: float steps, operators, placing, names,
-//! narrowing, faults and the job, one store after the other; the gray, the card, the window, the list of the names, the
-//! job number and the spot as document 02 has them. Each place where a reader may go wrong has a switch (`wrong.rs`); with none
+//! narrowing, faults and the job, one store after the other; the gray, the card, the window, the list of the names and
+//! the job number as document 02 has them. Each place where a reader may go wrong has a switch (`wrong.rs`); with none
 //! set this agrees with the Rust and its model on every request.
 
 // A negated comparison is another one where an operand is NaN, and some misreadings are just that.
@@ -20,15 +20,13 @@ mod operator;
 mod pixel;
 mod place;
 mod sites;
-mod spot;
-mod spot_checks;
 mod steps;
 mod window;
 pub mod wrong;
 
 pub use wrong::{Reading, Wrong};
 
-use crate::request::{Answer, Call, CardAnswer, Job, Memory, Side, SpotAnswer};
+use crate::request::{Answer, Call, CardAnswer, Job, Memory, Side};
 
 /// This module as a side of a comparison.
 pub struct Restated {
@@ -84,9 +82,5 @@ impl Side for Restated {
 
     fn read_card(&self, text: &[u8], table: &mut [i64], args: &mut [u32]) -> CardAnswer {
         self.reading.read_card(text, table, args)
-    }
-
-    fn spot(&self, job: &Job, x: i64, y: i64) -> SpotAnswer {
-        self.reading.spot(&self.reading.sheet(job, Wrong::JobTenNumbers), x, y)
     }
 }

@@ -28,25 +28,13 @@ pub struct Row<'a> {
 pub struct Beneath<'a> {
     pub width: i64,
     pub height: i64,
-    pub words: Words<'a>,
-}
-
-/// The words of a picture: all of them, or a few pixels, each beside its column and row.
-#[derive(Clone, Copy)]
-pub enum Words<'a> {
-    All(&'a [u32]),
-    Few(&'a [((i64, i64), [u32; 4])]),
+    pub words: &'a [u32],
 }
 
 impl Beneath<'_> {
     pub fn at(&self, x: i64, y: i64) -> [u32; 4] {
-        match self.words {
-            Words::All(words) => {
-                let i = ((y * self.width + x) * 4) as usize;
-                words[i..i + 4].try_into().unwrap()
-            }
-            Words::Few(pixels) => pixels.iter().find(|(at, _)| *at == (x, y)).map_or([0; 4], |(_, pixel)| *pixel),
-        }
+        let i = ((y * self.width + x) * 4) as usize;
+        self.words[i..i + 4].try_into().unwrap()
     }
 }
 
@@ -59,7 +47,7 @@ pub fn stored(v: f32) -> u32 {
 }
 
 /// What a pixel of the source is for a cell.
-pub enum Landing {
+pub enum Spot {
     On(i64, i64),
     Off,
     Kept,
@@ -125,7 +113,7 @@ impl Reading {
     }
 
     /// Where the source lands, whatever the window is.
-    fn landing(self, row: &Row, beneath: &Beneath, x: i64, y: i64) -> Landing {
+    fn landing(self, row: &Row, beneath: &Beneath, x: i64, y: i64) -> Spot {
         let (left, top) = self.corner(row, beneath);
         let (mut sx, mut sy) = (x - left, y - top);
         let some = row.width > 0 && row.height > 0;
@@ -136,50 +124,40 @@ impl Reading {
             (sx, sy) = (rest(sx, row.width), rest(sy, row.height));
         }
         if tile && !some && self.is(Wrong::TileOfNothingKeeps) {
-            return Landing::Kept;
+            return Spot::Kept;
         }
         if tile && !some && self.is(Wrong::TileOfNothingWrites) {
-            return Landing::Off;
+            return Spot::Off;
         }
         let overlay = row.flags & overlay_bit != 0;
         if (0..row.width).contains(&sx) && (0..row.height).contains(&sy) {
-            Landing::On(sx, sy)
+            Spot::On(sx, sy)
         } else if overlay != self.is(Wrong::OverlayTurned) {
-            Landing::Off
+            Spot::Off
         } else {
-            Landing::Kept
+            Spot::Kept
         }
     }
 
-    /// Where the source lands, as far as the window lets it.
-    fn reached(self, row: &Row, beneath: &Beneath, x: i64, y: i64) -> Landing {
+    fn spot(self, row: &Row, beneath: &Beneath, x: i64, y: i64) -> Spot {
         let landing = self.landing(row, beneath, x, y);
         match self.in_window(row, beneath, &landing, (x, y)) {
             true => landing,
-            false if row.flags & 2 != 0 && self.is(Wrong::WindowOffSource) => Landing::Off,
-            false => Landing::OffWindow,
-        }
-    }
-
-    /// The pixel of the source that a layer writes a cell with; none where it keeps it.
-    pub fn source_at(self, row: &Row, beneath: &Beneath, x: i64, y: i64) -> Option<[u32; 4]> {
-        match self.reached(row, beneath, x, y) {
-            Landing::On(sx, sy) => Some(self.widened(row.channels, row.source, sy * row.width + sx)),
-            Landing::Off if self.is(Wrong::OffOpaque) => Some([0, 0, 0, 1f32.to_bits()]),
-            Landing::Off => Some([0; 4]),
-            Landing::Kept | Landing::OffWindow => None,
+            false if row.flags & 2 != 0 && self.is(Wrong::WindowOffSource) => Spot::Off,
+            false => Spot::OffWindow,
         }
     }
 
     /// A cell of the layer's result.
     pub fn cell(self, row: &Row, beneath: &Beneath, x: i64, y: i64) -> [u32; 4] {
         let under = beneath.at(x, y);
-        let Some(source) = self.source_at(row, beneath, x, y) else {
-            return match self.reached(row, beneath, x, y) {
-                Landing::OffWindow => self.off_window(row, beneath, (x, y)),
-                _ if self.is(Wrong::KeptPixelStored) => values(under).map(stored),
-                _ => under,
-            };
+        let source = match self.spot(row, beneath, x, y) {
+            Spot::On(sx, sy) => self.widened(row.channels, row.source, sy * row.width + sx),
+            Spot::Off if self.is(Wrong::OffOpaque) => [0, 0, 0, 1f32.to_bits()],
+            Spot::Off => [0; 4],
+            Spot::Kept if self.is(Wrong::KeptPixelStored) => return values(under).map(stored),
+            Spot::Kept => return under,
+            Spot::OffWindow => return self.off_window(row, beneath, (x, y)),
         };
         let (s, d) = (values(source), values(under));
         let op = match self.wrong {
@@ -206,7 +184,7 @@ impl Reading {
         out
     }
 
-    pub fn on(self, flags: i64, c: usize) -> bool {
+    fn on(self, flags: i64, c: usize) -> bool {
         let bit = match self.wrong {
             Some(Wrong::FlagsTurned) => 5 - c,
             Some(Wrong::AlphaAlwaysOn) if c == 3 => return true,
@@ -223,8 +201,7 @@ impl Reading {
         stored(v)
     }
 
-    /// Where a map reads the picture beneath.
-    fn aim(self, op: Op, row: &Row, beneath: &Beneath, (x, y): (i64, i64), s: Pixel) -> (f32, f32) {
+    fn map(self, op: Op, row: &Row, beneath: &Beneath, (x, y): (i64, i64), s: Pixel, d: Pixel) -> Pixel {
         let across = self.arg(&row.args, 0, Default::MapAcross, 20.0);
         let default = match self.wrong {
             Some(Wrong::MapDownTwenty) => 20.0,
@@ -241,23 +218,12 @@ impl Reading {
         };
         let px = place(x, s[0], across, beneath.width);
         let py = place(y, s[1], down, beneath.height);
-        if self.is(Wrong::MapTurned) { (py, px) } else { (px, py) }
-    }
-
-    fn map(self, op: Op, row: &Row, beneath: &Beneath, at: (i64, i64), s: Pixel, d: Pixel) -> Pixel {
-        let (px, py) = self.aim(op, row, beneath, at, s);
+        let (px, py) = if self.is(Wrong::MapTurned) { (py, px) } else { (px, py) };
         let mut out = self.bilinear(row, beneath, px, py);
         if self.is(Wrong::MapKeepsAlpha) {
             out[3] = d[3];
         }
         out
-    }
-
-    /// The two columns and the two rows that a map layer reads for a cell that it writes with this source, each with the
-    /// fraction between them.
-    pub fn crossing(self, row: &Row, beneath: &Beneath, at: (i64, i64), source: [u32; 4]) -> [(i64, i64, f32); 2] {
-        let (px, py) = self.aim(row.op, row, beneath, at, values(source));
-        [self.axis(px, beneath.width), self.axis(py, beneath.height)]
     }
 
     /// A coordinate: the two neighbours and the fraction between them.

@@ -32,5 +32,5 @@ sites! {
     Bound: LayersLow LayersHigh WidthLow WidthHigh HeightLow HeightHigh OperatorLow OperatorHigh GravityLow GravityHigh
         RightLow RightHigh DownLow DownHigh FlagsLow FlagsHigh SourceWidthLow SourceWidthHigh SourceHeightLow
         SourceHeightHigh CountLow CountHigh LeftLow LeftHigh TopLow TopHigh WindowWidthLow WindowWidthHigh WindowHeightLow
-        WindowHeightHigh SpotLeft SpotRight SpotTop SpotBottom Maps;
+        WindowHeightHigh;
 }

@@ -1,7 +1,7 @@
 //! Document 02's window (A.3) a second time: a layer writes a pixel that its window holds and that is, besides, on its
 //! source or under overlay. It cuts what is written and nothing else: placing, tiling and a map's reads go by the whole tray.
 
-use super::place::{Beneath, Landing, Row, stored};
+use super::place::{Beneath, Row, Spot, stored};
 use super::wrong::{Reading, Wrong};
 use crate::request::{COLUMNS, Job, WHOLE, WINDOW, Window};
 
@@ -66,7 +66,7 @@ impl Reading {
     }
 
     /// Whether the window lets a layer write a pixel that it reaches like this.
-    pub fn in_window(self, row: &Row, beneath: &Beneath, landing: &Landing, (x, y): (i64, i64)) -> bool {
+    pub fn in_window(self, row: &Row, beneath: &Beneath, landing: &Spot, (x, y): (i64, i64)) -> bool {
         let from_corner = || {
             let (left, top) = self.corner(row, beneath);
             holds(row.window, x - left, y - top)
@@ -74,10 +74,10 @@ impl Reading {
         let [left, top, width, height] = row.window;
         match (self.wrong, landing) {
             (Some(Wrong::WindowTilePaints), _) if row.flags & 1 != 0 => true,
-            (Some(Wrong::WindowOverlayPaints), Landing::Off) => true,
+            (Some(Wrong::WindowOverlayPaints), Spot::Off) => true,
             (Some(Wrong::WindowNotOnMaps), _) if row.op.is_map() => true,
             (Some(Wrong::WindowFromCorner), _) => from_corner(),
-            (Some(Wrong::WindowOfSource), Landing::On(sx, sy)) => holds(row.window, *sx, *sy),
+            (Some(Wrong::WindowOfSource), Spot::On(sx, sy)) => holds(row.window, *sx, *sy),
             (Some(Wrong::WindowOfSource), _) => from_corner(),
             (Some(Wrong::WindowEither), _) => axis_holds(left, width, x) || axis_holds(top, height, y),
             (Some(Wrong::WindowTurnedRound), _) => !holds(row.window, x, y),

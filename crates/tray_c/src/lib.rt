@@ -1,0 +1,103 @@
+// What a host links, for C and Rust: each function of the crate tray under its own name, with the same clauses. `rt lib` in this folder makes the archive;
+// tools/library puts it where hosts look for it.
+#![tactic(auto)]
+ghost use Rattle.std.specs.Prelude.{◌≡◌, pos};
+ghost use Rattle.lent.specs.Lent.{before, after};
+ghost use Rattle.names.specs.Names.{from_name};
+ghost use Rattle.pictures.specs.Shapes.{shape_of};
+ghost use Rattle.layers.specs.Inputs.{inputs};
+ghost use Rattle.cards.specs.Answers.{answer, outcome, read_of};
+ghost use Rattle.compose.specs.Single.{composed, compose_of};
+ghost use Rattle.narrowing.specs.Narrow.{narrowed, narrow_of, narrow_bytes_of};
+ghost use Rattle.job.specs.Memory.{found, left};
+ghost use Rattle.job.specs.Call.{call_of};
+ghost use Rattle.tray.specs.Answers.{named, name_of, job_outcome, host_outcome};
+
+// The operator that a name spells: 0 with its number in `operator`; or 3, with `operator` as it was.
+#[unsafe(no_mangle)]
+pub extern "C" fn tray_from_name(name: &[u8], operator: &mut u64) -> u64
+    ensures { named result (after operator) ≡ name_of (from_name name.now) (before operator) }
+{
+    tray::tray_from_name(name, operator)
+}
+
+// The card that a text is, read into the layer table and the arguments, lent for the most layers: 0, and both filled; or 12, with the first line that is out of
+// form or one too many (0 for a list of another length), and both as they were. The line, the tray's width, height and channels and the count of layers are
+// written to the last five.
+#[unsafe(no_mangle)]
+pub extern "C" fn tray_read_card(
+    text: &[u8],
+    rows: &mut [i64],
+    words: &mut [u32],
+    line: &mut u64,
+    width: &mut i64,
+    height: &mut i64,
+    channels: &mut i64,
+    layers: &mut i64,
+) -> u64
+    ensures { outcome (answer result (after line) (after width) (after height) (after channels) (after layers)) (after rows) (after words)
+        ≡ read_of text.now (before rows) (before words) }
+{
+    tray::tray_read_card(text, rows, words, line, width, height, channels, layers)
+}
+
+// One layer on one destination: 0 and the whole picture in `out`; or the number of the first fault, with `out` as it was.
+#[unsafe(no_mangle)]
+pub extern "C" fn tray_compose(
+    width: i64,
+    height: i64,
+    channels: i64,
+    dst: &[u32],
+    table: &[i64],
+    args: &[u32],
+    samples: &[u32],
+    out: &mut [u32],
+) -> u64
+    ensures { composed result (after out) ≡ compose_of (inputs (shape_of width height channels) dst (pos 1) table args samples) (before out) }
+{
+    tray::tray_compose(width, height, channels, dst, table, args, samples, out)
+}
+
+// A picture of four channels narrowed to one, three or four: 0 and the whole output; or 11, with the output as it was.
+#[unsafe(no_mangle)]
+pub extern "C" fn tray_narrow(wanted: i64, input: &[u32], output: &mut [u32]) -> u64
+    ensures { narrowed result (after output) ≡ narrow_of wanted input.now (before output) }
+{
+    tray::tray_narrow(wanted, input, output)
+}
+
+// The same as bytes.
+#[unsafe(no_mangle)]
+pub extern "C" fn tray_narrow_bytes(wanted: i64, input: &[u32], output: &mut [u8]) -> u64
+    ensures { narrowed result (after output) ≡ narrow_bytes_of wanted input.now (before output) }
+{
+    tray::tray_narrow_bytes(wanted, input, output)
+}
+
+// A call of a job under its number, allowed so many stores: the number of the first fault, or 0; its layer, the stores made and whether the job is
+// finished (1 or 0) are written to the last three. `work0`, `work1` and `checkpoint`, the position and the job's number, hold the job between calls. A
+// refused call leaves them as they were, and every call the job's number.
+#[unsafe(no_mangle)]
+pub extern "C" fn tray_job(
+    width: i64,
+    height: i64,
+    channels: i64,
+    dst: &[u32],
+    layers: i64,
+    table: &[i64],
+    args: &[u32],
+    samples: &[u32],
+    job: u64,
+    allowance: u64,
+    work0: &mut [u32],
+    work1: &mut [u32],
+    checkpoint: &mut [u64],
+    layer: &mut u64,
+    stores: &mut u64,
+    finished: &mut u64,
+) -> u64
+    ensures { host_outcome (left work0 work1 checkpoint) result (after layer) (after stores) (after finished)
+        ≡ job_outcome (call_of (inputs (shape_of width height channels) dst layers table args samples) job allowance (found work0 work1 checkpoint)) }
+{
+    tray::tray_job(width, height, channels, dst, layers, table, args, samples, job, allowance, work0, work1, checkpoint, layer, stores, finished)
+}
