@@ -12,6 +12,7 @@ pub fn negate(s: f32, d: f32) -> f32
     1.0 - sign::abs(1.0 - s - d)
 }
 
+#[tactic(auto, unfolding(crate::specs::Blends::hard_light_of))]
 pub fn hard_light(s: f32, d: f32) -> f32
     ensures { result ≡ hard_light_of s d }
 {
@@ -23,6 +24,7 @@ pub fn hard_light(s: f32, d: f32) -> f32
 }
 
 // The curve of soft_light above a half.
+#[tactic(auto, unfolding(crate::specs::Blends::curve_of))]
 fn curve(d: f32) -> f32
     ensures { result ≡ curve_of d }
 {
@@ -32,6 +34,7 @@ fn curve(d: f32) -> f32
     root::sqrt(d)
 }
 
+#[tactic(auto, unfolding(crate::specs::Blends::soft_light_of))]
 pub fn soft_light(s: f32, d: f32) -> f32
     ensures { result ≡ soft_light_of s d }
 {
@@ -41,6 +44,7 @@ pub fn soft_light(s: f32, d: f32) -> f32
     d + (2.0 * s - 1.0) * (curve(d) - d)
 }
 
+#[tactic(auto, unfolding(crate::specs::Blends::color_dodge_of))]
 pub fn color_dodge(s: f32, d: f32) -> f32
     ensures { result ≡ color_dodge_of s d }
 {
@@ -54,6 +58,7 @@ pub fn color_dodge(s: f32, d: f32) -> f32
 }
 
 // Black is tested before white: a black source burns to black even over white.
+#[tactic(auto, unfolding(crate::specs::Blends::color_burn_of))]
 pub fn color_burn(s: f32, d: f32) -> f32
     ensures { result ≡ color_burn_of s d }
 {
@@ -66,6 +71,7 @@ pub fn color_burn(s: f32, d: f32) -> f32
     1.0 - order::smaller((1.0 - d) / s, 1.0)
 }
 
+#[tactic(auto, unfolding(crate::specs::Blends::divide_of))]
 pub fn divide(num: f32, den: f32) -> f32
     ensures { result ≡ divide_of num den }
 {
@@ -78,6 +84,7 @@ pub fn divide(num: f32, den: f32) -> f32
     num / den
 }
 
+#[tactic(auto, unfolding(crate::specs::Blends::vivid_light_of))]
 pub fn vivid_light(s: f32, d: f32) -> f32
     ensures { result ≡ vivid_light_of s d }
 {
@@ -87,6 +94,7 @@ pub fn vivid_light(s: f32, d: f32) -> f32
     color_dodge(2.0 * s - 1.0, d)
 }
 
+#[tactic(auto, unfolding(crate::specs::Blends::pin_light_of))]
 pub fn pin_light(s: f32, d: f32) -> f32
     ensures { result ≡ pin_light_of s d }
 {
@@ -96,6 +104,7 @@ pub fn pin_light(s: f32, d: f32) -> f32
     order::larger(d, 2.0 * s - 1.0)
 }
 
+#[tactic(auto, unfolding(crate::specs::Blends::hard_mix_of))]
 pub fn hard_mix(s: f32, d: f32) -> f32
     ensures { result ≡ hard_mix_of s d }
 {
@@ -105,6 +114,7 @@ pub fn hard_mix(s: f32, d: f32) -> f32
     1.0
 }
 
+#[tactic(auto, unfolding(crate::specs::Blends::freeze_of))]
 pub fn freeze(s: f32, d: f32) -> f32
     ensures { result ≡ freeze_of s d }
 {
@@ -114,6 +124,7 @@ pub fn freeze(s: f32, d: f32) -> f32
     1.0 - (1.0 - s) * (1.0 - s) / d
 }
 
+#[tactic(auto, unfolding(crate::specs::Blends::reflect_of))]
 pub fn reflect(s: f32, d: f32) -> f32
     ensures { result ≡ reflect_of s d }
 {

@@ -5,6 +5,7 @@ ghost use Rattle.blends.specs.Hsl.{saturation_of, hue_of, hsl_by, rgb_to_hsl_of,
 use crate::{Hsl, Rgb};
 use float_steps::{order, remainder};
 
+#[tactic(auto, unfolding(crate::specs::Hsl::saturation_of))]
 fn saturation(max: f32, min: f32, l: f32, d: f32) -> f32
     ensures { result ≡ saturation_of max min l d }
 {
@@ -14,6 +15,7 @@ fn saturation(max: f32, min: f32, l: f32, d: f32) -> f32
     d / (max + min)
 }
 
+#[tactic(auto, unfolding(crate::specs::Hsl::hue_of))]
 fn hue(r: f32, g: f32, b: f32, max: f32, d: f32) -> f32
     ensures { result ≡ hue_of r g b max d }
 {
@@ -27,6 +29,7 @@ fn hue(r: f32, g: f32, b: f32, max: f32, d: f32) -> f32
 }
 
 // Of a colour whose largest and smallest channels are max and min.
+#[tactic(auto, unfolding(crate::specs::Hsl::hsl_by))]
 fn hsl_by(r: f32, g: f32, b: f32, max: f32, min: f32) -> Hsl
     ensures { result ≡ hsl_by r g b max min }
 {
@@ -48,6 +51,7 @@ pub fn rgb_to_hsl(r: f32, g: f32, b: f32) -> Hsl
     hsl_by(r, g, b, max, min)
 }
 
+#[tactic(auto, unfolding(crate::specs::Hsl::upper_of))]
 fn upper(s: f32, l: f32) -> f32
     ensures { result ≡ upper_of s l }
 {
@@ -58,6 +62,7 @@ fn upper(s: f32, l: f32) -> f32
 }
 
 // A channel at t, from 0 to 1 around the circle of hues.
+#[tactic(auto, unfolding(crate::specs::Hsl::ramp_of))]
 fn ramp(p: f32, q: f32, t: f32) -> f32
     ensures { result ≡ ramp_of p q t }
 {
@@ -79,6 +84,7 @@ fn channel(p: f32, q: f32, h: f32) -> f32
     ramp(p, q, remainder::rem_euclid(h, 1.0))
 }
 
+#[tactic(auto, unfolding(crate::specs::Hsl::rgb_by))]
 fn rgb_by(c: Hsl, p: f32, q: f32) -> Rgb
     ensures { result ≡ rgb_by c p q }
 {
@@ -90,6 +96,7 @@ fn rgb_by(c: Hsl, p: f32, q: f32) -> Rgb
     }
 }
 
+#[tactic(auto, unfolding(crate::specs::Hsl::hsl_to_rgb_of))]
 pub fn hsl_to_rgb(c: Hsl) -> Rgb
     ensures { result ≡ hsl_to_rgb_of c }
 {

@@ -1,6 +1,7 @@
 // The scalar arithmetic of composite.rs's operators: the blend functions that branch, and the two colour conversions.
 // Its contracts cite specs/Blends.antt and specs/Hsl.antt.
 #![tactic(auto)]
+
 pub mod blend; // blend.rt: hard_light, soft_light, color_dodge, color_burn, divide and the arms that rest on them
 pub mod conversions; // conversions.rt: rgb_to_hsl and hsl_to_rgb
 
