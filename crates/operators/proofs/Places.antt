@@ -1,7 +1,8 @@
 -- The list of the operators, their numbers and the enum's order agree. Assumes nothing.
 use mathlib.Core.Path.{◌≡◌, sym, ◌∙◌}
-use Prim.Native.Nat.{ℕ, ◌<◌}
+use Prim.Native.Nat.{ℕ, ◌<◌, ◌≤◌}
 use lib.Dec.{eqb, eqb→eq, ltb, ltb→lt}
+use lib.ListN.{get_or-eq_default}
 use denote.Enum.Declared.{tag_of}
 use Rattle.laws.proofs.Tables.{at_each}
 use Rattle.laws.proofs.Variants.{each, one_tag}
@@ -28,3 +29,7 @@ number_below o = ltb→lt _ _ (each enum (λ x. ltb (number_of x) count) tt o)
 -- an operator stands at its number
 pub at_number : (o : CompositeOp) → op_at (number_of o) ≡ o
 at_number o = one_number (op_at (number_of o)) o (sym (number_of_lem (number_of o) (number_below o)))
+
+-- past the last number stands Over
+pub past_the_last : (n : ℕ) → count ≤ n → Over ≡ op_at n
+past_the_last n h = sym (get_or-eq_default operators Over {n = n} h)

@@ -200,6 +200,7 @@ impl CompositeOp {
     }
 
     // What the number of this operator names: Interpolate and Blur are not carried (document 01, CURVE).
+    #[tactic(auto, using(crate::proofs::Numbers::not_carried, crate::proofs::Numbers::carried))]
     fn named(self) -> Numbered
         ensures { result ≡ named self }
     {
