@@ -65,6 +65,7 @@ impl Gravity {
     ];
 
     // The gravity of a number; past the last one, `Unset`.
+    #[tactic(auto, unfolding(crate::specs::Gravities::gravity_at))]
     pub fn from_number(n: u64) -> Gravity
         ensures { result ≡ gravity_at n }
     {
@@ -148,6 +149,7 @@ fn sum(a: i64, b: i64) -> i64
 }
 
 // composite.rs's `placement`: the source's top left corner on the destination.
+#[tactic(auto, unfolding(crate::specs::Placement::placement_of))]
 pub fn placement(
     gravity: Gravity,
     dw: usize,
@@ -200,6 +202,7 @@ fn inside(z: i64, side: usize) -> Index
 }
 
 // The source's coordinate along one axis, at a destination coordinate.
+#[tactic(auto, using(crate::proofs::Indices::axis_empty, crate::proofs::Indices::axis_tiled, crate::proofs::Indices::axis_untiled))]
 pub fn axis_index(tile: bool, side: usize, x: usize, start: i64) -> Index
     requires { (x ≤ slack) × (mag start ≤ reach) }
     ensures { result ≡ axis_index tile side (pos x -ℤ start) }
@@ -242,6 +245,7 @@ fn pixel_index(sw: usize, column: Index, row: Index) -> Index
 }
 
 // The index of the source's pixel that lies on the destination pixel (x, y).
+#[tactic(auto, unfolding(crate::specs::Indices::source_index))]
 pub fn source_index(tile: bool, sw: usize, sh: usize, corner: Corner, x: usize, y: usize) -> Index
     requires { Reached sw sh corner x y }
     ensures { result ≡ source_index tile sw sh corner x y }
