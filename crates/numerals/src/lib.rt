@@ -27,6 +27,7 @@ const DIGITS: usize = 10;
 const WORD: usize = 8;
 
 // The digit that a byte is; 16 where it is none.
+#[tactic(auto, unfolding(crate::specs::Digits::digit_of))]
 fn digit(b: u8) -> u64
     ensures { result ≡ digit_of b }
 {
@@ -64,6 +65,7 @@ fn number_in(base: u64, s: &[u8]) -> Number
 }
 
 // A decimal number without a sign: one to ten digits, no zero before others.
+#[tactic(auto, using(crate::proofs::Reading::too_long, crate::proofs::Reading::empty, crate::proofs::Reading::single, crate::proofs::Reading::zero_led, crate::proofs::Reading::led))]
 fn unsigned(s: &[u8]) -> Number
     ensures { result ≡ unsigned_of s.now }
 {
@@ -106,6 +108,7 @@ fn negative(s: &[u8]) -> Integer
 }
 
 // A decimal number, with a minus where it is below 0.
+#[tactic(auto, using(crate::proofs::Reading::nothing, crate::proofs::Reading::from_zero, crate::proofs::Reading::below_zero_lem))]
 pub fn decimal(s: &[u8]) -> Integer
     ensures { result ≡ decimal_of s.now }
 {
@@ -119,6 +122,7 @@ pub fn decimal(s: &[u8]) -> Integer
 }
 
 // A word of 32 bits: eight hexadecimal digits.
+#[tactic(auto, using(crate::proofs::Reading::eight, crate::proofs::Reading::not_eight))]
 pub fn hex(s: &[u8]) -> Number
     ensures { result ≡ hex_of s.now }
 {
