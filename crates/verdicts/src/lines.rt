@@ -8,6 +8,7 @@ ghost use Rattle.verdicts.specs.Lines.{counts_found, counts_left, first_wrong, l
 use crate::counting::tally;
 
 // Where the line that starts at `from` ends.
+#[tactic(auto, using(crate::proofs::Splitting::text_end, crate::proofs::Splitting::line_end, crate::proofs::Splitting::one_byte))]
 pub fn line_end(text: &[u8], from: usize) -> usize
     requires { from ≤ length text.now }
     ensures value { result ≡ from + width_of (drop from text.now) }
@@ -57,6 +58,7 @@ pub fn asked(line: &[u8]) -> &[u8]
 }
 
 // The kind of a line that starts with `first`: where it stands among the kinds' letters.
+#[tactic(auto, using(crate::proofs::Splitting::no_letter, crate::proofs::Splitting::letter, crate::proofs::Splitting::other_letter))]
 fn kind_of(kinds: &[u8], first: u8) -> usize
     ensures value { result ≡ kind_of kinds.now first }
     ensures upper_bound { result ≤ length kinds.now }
@@ -114,6 +116,7 @@ fn counts_wrong(line: &[u8], place: usize) -> bool
 }
 
 // Counts a line with its kind, and answers the number of the first wrong line.
+#[tactic(auto, unfolding(crate::specs::Lines::with_line))]
 fn count_line(
     line: &[u8],
     place: usize,
@@ -153,6 +156,7 @@ fn place_of(places: &[usize], i: usize) -> usize
 }
 
 // Counts every line of a text with its kind as right or wrong, and answers the number of the first that is wrong, 0 where none is.
+#[tactic(auto, using(crate::proofs::Splitting::one_counted, crate::proofs::Splitting::all_counted))]
 pub fn count_lines(
     text: &[u8],
     places: &[usize],
