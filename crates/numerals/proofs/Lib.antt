@@ -2,3 +2,4 @@ pub mod Bools
 pub mod Reading
 pub mod Inverse
 pub mod Numbers
+pub mod Signed

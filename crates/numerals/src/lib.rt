@@ -84,6 +84,7 @@ fn unsigned(s: &[u8]) -> Number
     number_in(10, s)
 }
 
+#[tactic(auto, using(crate::proofs::Signed::same_fits, crate::proofs::Signed::same_bits))]
 fn positive(s: &[u8]) -> Integer
     ensures { result ≡ plus (unsigned_of s.now) }
 {
@@ -93,6 +94,7 @@ fn positive(s: &[u8]) -> Integer
     }
 }
 
+#[tactic(auto, using(crate::proofs::Signed::same_fits, crate::proofs::Signed::below_fits, crate::proofs::Signed::below_bits))]
 fn negative(s: &[u8]) -> Integer
     ensures { result ≡ minus (unsigned_of s.now) }
 {
