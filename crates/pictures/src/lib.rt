@@ -2,6 +2,7 @@
 // between its pixels.
 // A picture is a list of words (binary32 patterns), row by row, `channels` of them a pixel. The definitions are in specs/.
 #![tactic(auto)]
+
 pub mod bilinear; // bilinear.rt: the four neighbours of a place between pixels, and their mixture
 pub mod flat; // flat.rt: pixels written into a list of words
 pub mod shapes; // shapes.rt: a picture's sides and channels as a caller gives them, and which are accepted

@@ -10,6 +10,7 @@ impl Shape {
 }
 
 // A number that is not negative as an unsigned one; a negative one as 0.
+#[tactic(auto, unfolding(crate::specs::Shapes::nat_of))]
 pub fn natural(z: i64) -> usize
     ensures { result ≡ nat_of z }
 {
@@ -20,6 +21,7 @@ pub fn natural(z: i64) -> usize
 }
 
 // Whether a number is not from lo to hi.
+#[tactic(auto, unfolding(crate::specs::Shapes::outside_z))]
 pub fn outside(z: i64, lo: i64, hi: i64) -> bool
     ensures { result ≡ outside_z lo hi z }
 {
@@ -30,6 +32,7 @@ pub fn outside(z: i64, lo: i64, hi: i64) -> bool
 }
 
 // Whether a number is none of 1, 3 and 4.
+#[tactic(auto, unfolding(crate::specs::Shapes::bad_channels))]
 pub fn bad_channels(z: i64) -> bool
     ensures { result ≡ bad_channels z }
 {
@@ -47,6 +50,7 @@ pub fn bad_channels(z: i64) -> bool
 }
 
 // Whether a side or the channels of a picture are out of their range.
+#[tactic(auto, unfolding(crate::specs::Shapes::bad_shape))]
 pub fn bad_shape(shape: Shape) -> bool
     ensures { result ≡ bad_shape shape }
 {

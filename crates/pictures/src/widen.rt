@@ -48,6 +48,7 @@ fn one_at(picture: &[u32], at: usize) -> Words
 }
 
 // Pixel j of a picture of four, three or one channels.
+#[tactic(auto, unfolding(crate::specs::Widen::rgba_at))]
 pub fn rgba_at(picture: &[u32], channels: usize, j: usize) -> Words
     requires { (1 ≤ channels) × (channels ≤ 4) × (channels * j + channels ≤ length picture.now) }
     ensures { result ≡ rgba_at picture.now channels j }
