@@ -3,7 +3,8 @@
 Which table a change of the job's code has to touch:
 ITEMS: a file, a module, a function, a type or a constant. CALLS: a call, a `while` or a `match`. BODIES: anything in `store` or in `accepted`.
 LISTS, INPUTS, TYPES, NUMBERS: what the functions hand on to each other. GIVEN: an argument with another name than its parameter.
-READS, READS_LAST: a new way to read a list, an input, the extent or the count. LENT: how a crate beneath the job lends a list. Other changes touch none."""
+READS, READS_LAST: a new way to read a list, an input, the extent or the count. LENT: how a crate beneath the job lends a list. text.DERIVES: what a type
+derives. Other changes touch none."""
 import os
 import re
 
@@ -17,10 +18,12 @@ ITEMS = {
     "crates/job/src/fill.rt": "pub fn fill",
     "crates/job/src/pixel.rt": "fn write_of; fn pixel; pub fn write_out",
     "crates/job/src/store.rt": "pub fn store",
-    "crates/tray/src/lib.rt": "fn flag; extern fn tray_from_name; extern fn tray_read_card; extern fn tray_compose; extern fn tray_narrow; "
+    "crates/tray/src/lib.rt": "fn flag; pub fn tray_from_name; pub fn tray_read_card; pub fn tray_compose; pub fn tray_narrow; "
+    "pub fn tray_narrow_bytes; pub fn tray_job",
+    "crates/tray_c/src/lib.rt": "extern fn tray_from_name; extern fn tray_read_card; extern fn tray_compose; extern fn tray_narrow; "
     "extern fn tray_narrow_bytes; extern fn tray_job",
 }
-# What each function calls, with each `while` and `match`, in the order of the text. A function that is not here has none.
+# What each function of the job and of tray calls, with each `while` and `match`, in the order of the text. A function that is not here has none.
 CALLS = {
     "tray_job": "job::call::run flag",
     "run": "fault accepted",
@@ -69,9 +72,9 @@ READS_LAST = "check"
 # What is lent to be changed beneath the job: `out`, in the last place but for `put`, and a list of the function's own.
 LENT = ("out : & mut [ u32 ] )", "out : & mut [ u32 ] , )", "fn put ( out : & mut [ u32 ]", "& mut own", "& mut out [ at .. ]", "let mut")
 
-# Each name of the two crates with the path that imports it. The crate `job` is named by its path, so nothing is imported as `job`; the job number has that name
-# too, and is a parameter alone.
-PATHS = {"job": "nothing"}
+# Each name of the three crates with the path that imports it. The crates `job` and `tray` are named by their paths, so nothing is imported as `job` or as
+# `tray`; the job number has the first name too, and is a parameter alone.
+PATHS = {"job": "nothing", "tray": "nothing"}
 for file, names in ITEMS.items():
     module = file.split("/")[-1].replace("lib.rt", "").replace(".rt", "::")
     PATHS |= {name: f"crate::{module}{name}" for name in re.findall(r"(\w+)(?:;|$)", names)}
@@ -91,7 +94,7 @@ def leads_to_store(name):
     return name == "store" or any(leads_to_store(callee.split("::")[-1]) for callee in CALLS.get(name, "").split())
 
 
-# Each rule goes over one function. `own` has the names of the parameters of every function of the two crates. A fault is a place in the body and what is wrong.
+# Each rule goes over one function. `own` has the parameters' names of every function of the job and of tray. A fault is a place in the body and what is wrong.
 def parameters(function, _):
     """What the functions hand on has its type. A list is lent to be changed on the way to `store` alone; of the rest the job lends the count and `out`."""
     for name, kind in function.parameters:
@@ -160,8 +163,18 @@ def has(function, own):
             yield match.start(), f"has `mut` in another form: `{around(function.body, match.start())}`"
 
 
+def exports(function, handed):
+    """The whole body of an exported function hands its parameters on to the function of tray that has its name and its parameters."""
+    if function.parameters != handed.get(function.name):
+        yield 0, f"has not the parameters of `tray::{function.name}`"
+    due = text.Source(function.name, f"tray::{function.name}({', '.join(name for name, _ in function.parameters)})").text
+    if function.body not in (due, due.removesuffix(") ") + ", ) "):
+        start = os.path.commonprefix([function.body, due]).rfind(" ") + 1
+        yield start, f"does not hand on its parameters alone, to `tray::{function.name}`: `{around(function.body, start)}`"
+
+
 def items(source, found):
-    """The items are those that are listed, each once. What is imported under a name of the two crates is what has that name there."""
+    """The items are those that are listed, each once. What is imported under a name of the three crates is what has that name there."""
     due = ITEMS.get(source.path, "").split("; ")
     for item, start in found:
         if item in due:
@@ -173,24 +186,29 @@ def items(source, found):
 
 def beneath(source):
     """A crate beneath the job is lent nothing to change but `out`."""
-    left = tokens(*LENT).sub(lambda match: " " * len(match[0]), source.text)
+    left = tokens(*LENT, text.DERIVES.strip()).sub(lambda match: " " * len(match[0]), source.text)
     for match in tokens("mut", "unsafe", "static", "extern", "#").finditer(left):
         yield f"{source.at(match.start())}: beneath the job: `{around(source.text, match.start())}`"
 
 
 def faults(files):
     """What is wrong with the crates, given as paths with their texts; and how many assignments to an element there are."""
-    upper = [path for path in files if re.match("crates/(?:job|tray)/", path)]
+    upper = [path for path in files if re.match("crates/(?:job|tray|tray_c)/", path)]
     wrong, functions = [f"{path}: a file that is not {'known' if path in files else 'there'}" for path in {*ITEMS} ^ {*upper}], []
     try:
         for source in (text.Source(path, raw) for path, raw in files.items()):
             found, more = text.items(source) if source.path in upper else ([], [])
             wrong += items(source, found) if source.path in upper else beneath(source)
             functions += more
-        own = {function.name: [name for name, _ in function.parameters] for function in functions}
-        for function in functions:
-            for rule in (parameters, calls, hands_on) + ((body,) if function.name in BODIES else (assigns, has)):
-                wrong += [f"{function.source.at(function.start + start)}: `{function.name}` {what}" for start, what in rule(function, own)]
+        exported = [function for function in functions if "/tray_c/" in function.source.path]
+        inside = [function for function in functions if function not in exported]
+        own = {function.name: [name for name, _ in function.parameters] for function in inside}
+        handed = {function.name: function.parameters for function in inside if "/tray/" in function.source.path}
+        asked = [(rule, function, own) for function in inside for rule in (parameters, calls, hands_on)]
+        asked += [(rule, function, own) for function in inside for rule in ((body,) if function.name in BODIES else (assigns, has))]
+        asked += [(exports, function, handed) for function in exported]
+        for rule, function, known in asked:
+            wrong += [f"{function.source.at(function.start + start)}: `{function.name}` {what}" for start, what in rule(function, known)]
     except text.Unread as end:
         wrong.append(str(end))
     return wrong, sum(place.endswith("]") for function in functions for place, _, _ in text.assignments(function))

@@ -5,18 +5,22 @@ import re
 from collections import namedtuple
 
 # No text may be a comment here and code to the compiler. Strings, block comments and lifetimes are not read, for the sources have none. What the proof checker
-# reads, a contract and an import for contracts, is read in one form alone, and without what would move its end: to it `//` is a name, `--` begins a comment.
+# reads, a contract and an import for contracts, is read in one form alone, and without what would move its end: to it `//` is a name, `--` begins a comment. A
+# clause has no braces inside, so that its first `}` ends it. What an attribute `tactic` says, the proof checker reads too; it is passed over, in one form alone.
 TOKEN = re.compile(
-    r"(?P<gap>//[^\n]*|[ \n]+)"
-    r"|(?P<ghost>ghost use [^\s;{}]+(?:\{[^;{}\n]*\}| as \w+);|(?:requires \{|ensures \{ λ \w+\.)\s+⌜[^⌜⌝{}]*⌝\s+\})"
+    r"(?P<gap>//[^\n]*|[ \n]+|#!?\[tactic\([\w:(), \n]*\)\])"
+    r"|(?P<ghost>ghost use [^\s;{}]+(?:\{[^;{}\n]*\}| as \w+);|(?:requires|ensures)(?: \w+)? \{\s[^{}]*\s\})"
     r"|(?P<token>(?!(?:ghost|requires|ensures)\b)\w+|\"C\"|<<=|>>=|\.\.=|[-+*/%&|^=!<>]=|=>|->|::|\.\.|&&|\|\||<<|>>|/(?!\*)|[-+*%&|^!<>=.,:;(){}\[\]#])",
     re.A,
 )
+DERIVES = "# [ derive ( Clone , Copy ) ] "
 MOVES_THE_END = re.compile(r"//|--|[\"«⟦]")
-# An item, up to the brace that opens its block; of a function what stands before it, its name and its parameters. No result is a reference.
+# An item, up to the brace that opens its block; of an import what it names, where braces are; of a function what stands before it, its name and its parameters.
+# No result is a reference. A type may be copied.
 ITEM = re.compile(
-    r"ghost |use \w+(?: :: \w+)+ ; |(?:pub )?mod \w+ ; |const \w+ : usize = (?:\w+ \* )?\w+ ; |(?:pub )?(?:enum|struct) \w+ (?=\{)"
-    r"|(# \[ no_mangle \] pub extern \"C\" |pub |)fn (\w+) \( ([^()]*)\) (?:-> \w+ )?(?:requires )?(?:ensures )?(?=\{)"
+    r"ghost |use (?:\w+ :: )+(?:\w+|\{ (?P<several>(?![^}]*\bself\b)\w+(?: , \w+)+) (?:, )?\}) ; |(?:pub )?mod \w+ ; |const \w+ : usize = (?:\w+ \* )?\w+ ; "
+    rf"|(?:{re.escape(DERIVES)})?(?P<type>(?:pub )?(?:enum|struct) \w+ )(?=\{{)"
+    r"|(?P<before># \[ unsafe \( no_mangle \) \] pub extern \"C\" |pub |)fn (?P<name>\w+) \( (?P<parameters>[^()]*)\) (?:-> \w+ )?(?:requires )*(?:ensures )*(?=\{)"
 )
 CALL = re.compile(r"(?<!\S)(?!(?:if|while|return|match) \()((?:\. )?\w+(?: :: \w+)*) \( ")
 
@@ -82,14 +86,18 @@ def items(source):
         if source.text.startswith("{", at):
             body = source.text[at + 2 : closing(source.text, at)]
             at += len("{ " + body + "} ")
-        if head[2]:
-            each = [re.fullmatch(r"(\w+) : (.+)", part) for part in head[3].strip(" ,").split(" , ")] if head[3] else []
+        if head["name"]:
+            given = head["parameters"]
+            each = [re.fullmatch(r"(\w+) : (.+)", part) for part in given.strip(" ,").split(" , ")] if given else []
             if not all(each):
-                raise Unread(f"{source.at(start)}: parameters that are not known: {show(head[3])}")
-            functions.append(Function(source, head[2], [part.groups() for part in each], body, head.end() + 2))
-            found.append((f"{'extern ' if head[1].startswith('#') else head[1]}fn {head[2]}", start))
+                raise Unread(f"{source.at(start)}: parameters that are not known: {show(given)}")
+            functions.append(Function(source, head["name"], [part.groups() for part in each], body, head.end() + 2))
+            found.append((f"{'extern ' if head['before'].startswith('#') else head['before']}fn {head['name']}", start))
+        elif head["several"]:
+            path = show(head[0].partition("{")[0])
+            found += [(path + name, start) for name in head["several"].split(" , ")]
         elif head[0] != "ghost ":
-            found.append((show(head[0]).rstrip(" ;").partition(": ")[0], start))
+            found.append((show(head["type"] or head[0]).rstrip(" ;").partition(": ")[0], start))
             if not re.fullmatch(r"[\w :,{}]*", body):
                 raise Unread(f"{source.at(start)}: a type that is not known: {show(body)}")
     return found, functions
