@@ -47,6 +47,7 @@ pub fn rmse(s: Rgba, d: Rgba) -> Rgba
 }
 
 // s where x is darker than y, each by its coverage, else d: DarkenIntensity, and LightenIntensity with x and y exchanged.
+#[tactic(auto, unfolding(crate::specs::Pixel::where_darker))]
 pub fn where_darker(x: Rgba, y: Rgba, s: Rgba, d: Rgba) -> Rgba
     ensures { result ≡ where_darker x y s d }
 {
@@ -187,6 +188,7 @@ fn matching(fuzz: f32, s: Rgba, d: Rgba) -> bool
     false
 }
 
+#[tactic(auto, unfolding(crate::specs::Pixel::change_mask_of))]
 pub fn change_mask(p: Params, s: Rgba, d: Rgba) -> Rgba
     ensures { result ≡ pixel_of O.ChangeMask p s d }
 {
@@ -201,6 +203,7 @@ pub fn change_mask(p: Params, s: Rgba, d: Rgba) -> Rgba
     d
 }
 
+#[tactic(auto, unfolding(crate::specs::Channel::threshold_channel))]
 fn threshold_channel(threshold: f32, amount: f32, s: f32, d: f32) -> f32
     ensures { result ≡ threshold_channel threshold amount s d }
 {

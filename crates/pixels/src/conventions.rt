@@ -12,6 +12,7 @@ pub fn over_alpha(sa: f32, da: f32) -> f32
 }
 
 // v / a where a is above 0, else 0.
+#[tactic(auto, unfolding(crate::specs::Channel::over_union_of))]
 pub fn over_union(v: f32, a: f32) -> f32
     ensures { result ≡ over_union_of v a }
 {

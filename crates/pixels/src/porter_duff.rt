@@ -33,6 +33,7 @@ fn with_alpha(c: Rgba, a: f32) -> Rgba
 }
 
 // A straight colour with alpha a, cleared to transparent black where a <= 0: not where it is NaN.
+#[tactic(auto, unfolding(crate::specs::Pixel::straight_or_clear_of))]
 fn straight_or_clear(c: Rgba, a: f32) -> Rgba
     ensures { result ≡ straight_or_clear_of c a }
 {
@@ -54,6 +55,7 @@ fn over_channel(a: f32, s: f32, d: f32, sa: f32, da: f32) -> f32
 }
 
 // Over, with its alpha a.
+#[tactic(auto, unfolding(crate::specs::Pixel::over_by))]
 fn over_by(a: f32, s: Rgba, d: Rgba) -> Rgba
     ensures { result ≡ over_by a s d }
 {
@@ -76,6 +78,7 @@ pub fn over(s: Rgba, d: Rgba) -> Rgba
 }
 
 // d where the pixel o is clear, else o.
+#[tactic(auto, unfolding(crate::specs::Pixel::kept_where_clear))]
 fn kept_where_clear(o: Rgba, d: Rgba) -> Rgba
     ensures { result ≡ kept_where_clear o d }
 {
