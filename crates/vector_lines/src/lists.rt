@@ -7,6 +7,7 @@ use crate::NOWHERE;
 use crate::numbers::{head_of, number, number_up_to, signed};
 
 // Reads a list of 32-bit words.
+#[tactic(auto, using(crate::proofs::Filling::room, crate::proofs::Filling::all_read))]
 pub fn words(line: &[u8], at: usize, list: &mut [u32], count: &mut usize) -> usize
     ensures { listed (after list) (after count) result ≡ words_at line.now at (before list) (before count) }
 {
@@ -23,6 +24,7 @@ pub fn words(line: &[u8], at: usize, list: &mut [u32], count: &mut usize) -> usi
 }
 
 // Reads a list of bytes.
+#[tactic(auto, using(crate::proofs::Filling::room, crate::proofs::Filling::all_read))]
 pub fn bytes(line: &[u8], at: usize, list: &mut [u8], count: &mut usize) -> usize
     ensures { listed (after list) (after count) result ≡ bytes_at line.now at (before list) (before count) }
 {
@@ -39,6 +41,7 @@ pub fn bytes(line: &[u8], at: usize, list: &mut [u8], count: &mut usize) -> usiz
 }
 
 // Reads a list of 64-bit numbers.
+#[tactic(auto, using(crate::proofs::Filling::room, crate::proofs::Filling::all_read))]
 pub fn longs(line: &[u8], at: usize, list: &mut [u64], count: &mut usize) -> usize
     ensures { listed (after list) (after count) result ≡ longs_at line.now at (before list) (before count) }
 {
@@ -55,6 +58,7 @@ pub fn longs(line: &[u8], at: usize, list: &mut [u64], count: &mut usize) -> usi
 }
 
 // Reads a list of signed numbers.
+#[tactic(auto, using(crate::proofs::Filling::room, crate::proofs::Filling::all_read))]
 pub fn integers(line: &[u8], at: usize, list: &mut [i64], count: &mut usize) -> usize
     ensures { listed (after list) (after count) result ≡ integers_at line.now at (before list) (before count) }
 {
@@ -108,6 +112,7 @@ pub fn first_longs(list: &[u64], count: usize) -> &[u64]
     list
 }
 
+#[tactic(auto, using(crate::proofs::Same::other_length, crate::proofs::Same::one_alike, crate::proofs::Same::one_other))]
 pub fn same_words(a: &[u32], b: &[u32]) -> bool
     ensures { result ≡ same a.now b.now }
 {
@@ -124,6 +129,7 @@ pub fn same_words(a: &[u32], b: &[u32]) -> bool
     true
 }
 
+#[tactic(auto, using(crate::proofs::Same::other_length, crate::proofs::Same::one_alike, crate::proofs::Same::one_other))]
 pub fn same_longs(a: &[u64], b: &[u64]) -> bool
     ensures { result ≡ same a.now b.now }
 {
@@ -140,6 +146,7 @@ pub fn same_longs(a: &[u64], b: &[u64]) -> bool
     true
 }
 
+#[tactic(auto, using(crate::proofs::Same::other_length, crate::proofs::Same::one_alike, crate::proofs::Same::one_other, crate::proofs::Reading::same_bits, crate::proofs::Reading::other_bits))]
 pub fn same_integers(a: &[i64], b: &[i64]) -> bool
     ensures { result ≡ same_integers a.now b.now }
 {
@@ -157,6 +164,7 @@ pub fn same_integers(a: &[i64], b: &[i64]) -> bool
 }
 
 // The place after what was compared, where it was the same.
+#[tactic(auto, unfolding(crate::specs::Lists::if_same))]
 pub fn if_same(is_same: bool, next: usize) -> usize
     ensures { result ≡ if_same is_same next }
 {

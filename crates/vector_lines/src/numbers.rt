@@ -52,6 +52,7 @@ fn token(line: &[u8], at: usize) -> usize
 }
 
 // The value of a small hexadecimal digit; 16 of any other byte.
+#[tactic(auto, unfolding(crate::specs::Numbers::digit_of))]
 fn digit(b: u8) -> u64
     ensures { result ≡ digit_of b }
 {
@@ -86,6 +87,7 @@ fn nothing() -> Unsigned
 }
 
 // The number whose digits go on at `start` after those that spell `first`; NOWHERE where it has more than 64 bits.
+#[tactic(auto, using(crate::proofs::Digits::none_spelt))]
 fn more_digits(line: &[u8], start: usize, first: u64) -> Unsigned
     ensures { result ≡ gone_on line.now start first }
 {
@@ -104,6 +106,7 @@ fn more_digits(line: &[u8], start: usize, first: u64) -> Unsigned
 }
 
 // The number whose digits start at `start`; NOWHERE where there is no digit, or a zero before others, or more than 64 bits.
+#[tactic(auto, using(crate::proofs::Digits::no_digits, crate::proofs::Digits::zero_first, crate::proofs::Digits::zero_alone, crate::proofs::Digits::other_first))]
 fn digits(line: &[u8], start: usize) -> Unsigned
     ensures { result ≡ digits_at line.now start }
 {
@@ -146,6 +149,7 @@ pub fn number(line: &[u8], at: usize) -> Unsigned
 }
 
 // The place after a number that must be `value`.
+#[tactic(auto, unfolding(crate::specs::Numbers::expected_at))]
 pub fn expect(line: &[u8], at: usize, value: u64) -> usize
     ensures { result ≡ expected_at line.now at value }
 {
@@ -156,6 +160,7 @@ pub fn expect(line: &[u8], at: usize, value: u64) -> usize
 const MOST_SIGNED: u64 = 0x7fff_ffff_ffff_ffff;
 
 // A number that may be below zero: then its complement stands after `~`.
+#[tactic(auto, using(crate::proofs::Reading::below_zero_lem, crate::proofs::Reading::from_zero))]
 pub fn signed(line: &[u8], at: usize) -> Integer
     ensures { result ≡ signed_at line.now at }
 {
@@ -196,6 +201,7 @@ fn complement(n: Unsigned) -> Integer
 }
 
 // What stands in the place of a list that has room for `room` numbers: `=`, or its count, which is written to `count`.
+#[tactic(auto, using(crate::proofs::Reading::kept_head, crate::proofs::Reading::kept_count, crate::proofs::Reading::given_head, crate::proofs::Reading::given_count))]
 pub fn head_of(line: &[u8], at: usize, room: usize, count: &mut usize) -> Head
     ensures value { result ≡ head_at room line.now at }
     ensures count_le_room { result.count ≤ room }

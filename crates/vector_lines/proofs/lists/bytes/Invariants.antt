@@ -1,0 +1,10 @@
+-- i numbers are read.
+use Rattle.std.proofs.Common.{◌-◌}
+use Rattle.vector_lines.proofs.Filling.{NumbersRead}
+use Rattle.vector_lines.proofs.lists.bytes.Given as goal
+
+abbrev pub invariant-loop-i : goal.invariant-loop-i
+invariant-loop-i l = NumbersRead 255 l.line l.head l.initial.list l.i l.list l.next
+
+abbrev pub decreases-loop-i : goal.decreases-loop-i
+decreases-loop-i l = l.head.count - l.i
