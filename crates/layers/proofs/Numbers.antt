@@ -12,7 +12,7 @@ use Rattle.pictures.specs.Shapes.{nat_of}
 use Rattle.pictures.proofs.Ranges.{nat_mag}
 
 pub answered : {z y : ℤ} → mag z < 2 ^ hbits w64 → z ≡ y → to_z w64 (of_z w64 z) ≡ y
-answered ok e = to_z-of_z (sfits_of ok) ∙ e
+answered ok e = to_z-of_z {w = w64} (sfits_of ok) ∙ e
 
 pub answered_small : {z y : ℤ} → mag z < 2 ^ hbits w64 → z ≡ y → nat_of y < 2 ^ 63
 answered_small {z} ok e = rw (← e) (omega (arith, nat_mag z, ok))

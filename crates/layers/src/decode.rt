@@ -10,6 +10,7 @@ use operators::CompositeOp;
 use places::Gravity;
 
 // Whether a bit, a power of two, stands in the flags.
+#[tactic(auto, unfolding(crate::specs::Layers::flagged))]
 fn flag(flags: usize, bit: usize) -> bool
     requires { 0 < bit }
     ensures { result ≡ flagged flags bit }
@@ -47,6 +48,7 @@ impl Source {
 }
 
 // Argument i of a layer's words, 0 where it is past the count.
+#[tactic(auto, unfolding(crate::specs::Layers::arg_of))]
 fn arg(words: &[u32], count: usize, i: usize) -> u32
     requires { i < length words.now }
     ensures { result ≡ arg_of words.now count i }
@@ -75,6 +77,7 @@ impl Args {
 
 impl Layer {
     // A layer from its row, any row, and the words of its arguments: `fault` tells whether the row's numbers are in their ranges.
+    #[tactic(auto, unfolding(crate::specs::Layers::layer_of))]
     pub fn of(row: &[i64], words: &[u32]) -> Layer
         requires { (length row.now ≡ columns) × (length words.now ≡ arg_words) }
         ensures { result ≡ layer_of row.now words.now }
@@ -100,6 +103,7 @@ impl Layer {
     }
 
     // Layer k of a job.
+    #[tactic(auto, unfolding(crate::specs::Layers::layer_at))]
     pub fn at(table: &[i64], args: &[u32], k: usize) -> Layer
         requires { (k * columns + columns ≤ length table.now) × (k * arg_words + arg_words ≤ length args.now) }
         ensures { result ≡ layer_at table.now args.now k }

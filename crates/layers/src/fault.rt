@@ -27,6 +27,7 @@ fn operator_fault(row: &[i64]) -> u64
 }
 
 // Whether the gravity or an offset is out of its range.
+#[tactic(auto, unfolding(crate::specs::Faults::bad_placing))]
 fn bad_placing(row: &[i64]) -> bool
     requires { length row.now ≡ columns }
     ensures { result ≡ bad_placing row.now }
@@ -53,6 +54,7 @@ fn source_shape(row: &[i64]) -> Shape
 }
 
 // Whether a row's source has a start, a side or channels out of their range, or does not lie in so many samples.
+#[tactic(auto, unfolding(crate::specs::Faults::bad_source))]
 fn bad_source(row: &[i64], samples: usize) -> bool
     requires { length row.now ≡ columns }
     ensures { result ≡ bad_source row.now samples }
@@ -69,6 +71,7 @@ fn bad_source(row: &[i64], samples: usize) -> bool
 }
 
 // Whether a number of a row's window is out of its range.
+#[tactic(auto, unfolding(crate::specs::Faults::bad_window))]
 fn bad_window(row: &[i64]) -> bool
     requires { length row.now ≡ columns }
     ensures { result ≡ bad_window row.now }
@@ -87,6 +90,7 @@ fn bad_window(row: &[i64]) -> bool
 
 impl Layer {
     // The number of a row's first fault, or NONE.
+    #[tactic(auto, unfolding(crate::specs::Faults::layer_fault))]
     pub fn fault(row: &[i64], samples: usize) -> u64
         requires { length row.now ≡ columns }
         ensures { result ≡ layer_fault row.now samples }

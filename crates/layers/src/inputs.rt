@@ -11,6 +11,7 @@ use pictures::Shape;
 use pictures::shapes::{bad_shape, natural, outside, sample_count};
 
 // Whether the count of layers is out of its range, or the table or the arguments are not as long as it says.
+#[tactic(auto, unfolding(crate::specs::Inputs::bad_stack))]
 fn bad_stack(count: i64, table: usize, args: usize) -> bool
     ensures { result ≡ bad_stack count table args }
 {
@@ -25,6 +26,7 @@ fn bad_stack(count: i64, table: usize, args: usize) -> bool
 }
 
 // Whether the destination's shape is none, or its samples are not as many as it says.
+#[tactic(auto, unfolding(crate::specs::Inputs::bad_dst))]
 fn bad_dst(shape: Shape, dst: usize) -> bool
     ensures { result ≡ bad_dst shape dst }
 {
@@ -57,6 +59,7 @@ fn rows_fault(table: &[i64], layers: usize, samples: usize) -> Verdict
 }
 
 // The first fault of a job's inputs: STACK and TRAY, then the rows' layer by layer.
+#[tactic(auto, unfolding(crate::specs::Inputs::job_fault))]
 pub fn check(
     shape: Shape,
     dst: &[u32],

@@ -1,6 +1,7 @@
 // A layer as one value, the faults of its row and of a whole job's inputs (document 01, "Why a job is turned down", 1 to 8).
 // The definitions are in specs/, the limits in specs/Limits.
 #![tactic(auto)]
+
 mod cells; // cells.rt: the rows of the layer table and their numbers
 mod decode; // decode.rt: a layer from its row
 mod fault; // fault.rt: the faults of a row

@@ -32,6 +32,7 @@ impl Window {
     }
 
     // Whether it holds the pixel in column x and row y.
+    #[tactic(auto, unfolding(crate::specs::Windows::holds))]
     pub fn holds(self, x: usize, y: usize) -> bool
         ensures { result ≡ holds self x y }
     {
