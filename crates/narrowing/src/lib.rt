@@ -2,6 +2,7 @@
 // (`to_channels`, `luma` and `narrow_u8` of deep.rs, `luma` with the weights of document 02). A call answers a number, and writes nothing where that is a fault's.
 // The contracts cite specs/Luma and specs/Narrow.
 #![tactic(auto)]
+
 ghost use Rattle.std.specs.Prelude.{◌≡◌, ◌*◌, ◌/◌, ◌<◌, length, get_or};
 ghost use Rattle.lent.specs.Lent.{before, after};
 ghost use Rattle.pictures.specs.Steps.{Channels};
@@ -20,6 +21,7 @@ use pictures::{Rgba, weights};
 const REFUSED: u64 = Fault::NARROW;
 
 // The gray of a pixel.
+#[tactic(auto, unfolding(crate::specs::Luma::luma_of))]
 pub fn luma(p: Rgba) -> f32
     ensures { result ≡ luma_of p }
 {
