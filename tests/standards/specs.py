@@ -85,7 +85,7 @@ def compositors(function, operators):
 
 
 WORD = r"(?:0x[0-9a-f_]+|0)"
-ROW = re.compile(rf"(fractions|blends) (\w+) (\w+) (\w+)((?: {WORD}){{6}})|nonSeparable (\w+)((?: {WORD}){{2}})")
+ROW = re.compile(rf"(fractions|blends) (\w+) (\w+) (\w+)((?: {WORD}){{6}})|non_separable (\w+)((?: {WORD}){{2}})")
 OVER = re.compile(r"over (\w+) \(λ m\. (.*?)\)")
 
 
@@ -99,7 +99,7 @@ def rows(lists):
     text = "\n".join(read("Rows.antt"))
     found = []
     for name in lists:
-        equation = re.search(rf"^{name} =(.*?)^(?:abbrev|\Z)", text, re.M | re.S)
+        equation = re.search(rf"^{name} =(.*?)^(?:abbrev|unfoldable|pub|\Z)", text, re.M | re.S)
         if not equation:
             fail(f"Rows.antt has no list {name}")
         found += list_rows(equation[1])
@@ -127,4 +127,4 @@ def row(match):
 def row_lists():
     """The lists that `rows` puts together."""
     text = "\n".join(read("Rows.antt"))
-    return re.findall(r"\w+", re.search(r"^rows =(.*?)^(?:abbrev|\Z)", text, re.M | re.S)[1])
+    return re.findall(r"\w+", re.search(r"^rows =(.*?)^(?:abbrev|unfoldable|pub|\Z)", text, re.M | re.S)[1])

@@ -18,9 +18,9 @@ _Static_assert(FLT_EVAL_METHOD == 0, "each operation is rounded once to binary32
 enum { OPERATORS = sizeof fractionSteps / sizeof *fractionSteps, MODES = sizeof blendSteps / sizeof *blendSteps };
 
 /* ---- Order.antt: a NaN yields the other operand, equal values the first; the clamp keeps NaN */
-static float smallerOf(float a, float b) { return isnan(a) ? b : b < a ? b : a; }
-static float largerOf(float a, float b) { return isnan(a) ? b : a < b ? b : a; }
-static float unitOf(float v) { return v < 0 ? 0 : 1 < v ? 1 : v; }
+static float smaller_of(float a, float b) { return isnan(a) ? b : b < a ? b : a; }
+static float larger_of(float a, float b) { return isnan(a) ? b : a < b ? b : a; }
+static float unit_of(float v) { return v < 0 ? 0 : 1 < v ? 1 : v; }
 
 /* A list of steps is a set of bits. */
 static int among(int k, unsigned l) { return l >> k & 1; }
@@ -41,92 +41,92 @@ static const enum Fraction FB[OPERATORS] = {
 
 /* ---- FractionSteps.antt */
 static float share(unsigned l, enum Fraction f, float C, float alpha, float beta) {
-    return among(straight, l) && f != none ? C : among(coverageFirst, l) ? C * (alpha * fraction(f, beta)) : C * alpha * fraction(f, beta);
+    return among(straight, l) && f != none ? C : among(coverage_first, l) ? C * (alpha * fraction(f, beta)) : C * alpha * fraction(f, beta);
 }
 
-static float sumBy(unsigned l, enum Operator o, float x, float y) {
-    return among(leftOut, l) ? FA[o] == none ? FB[o] == none ? 0 : y : FB[o] == none ? x : x + y : x + y;
+static float sum_by(unsigned l, enum Operator o, float x, float y) {
+    return among(left_out, l) ? FA[o] == none ? FB[o] == none ? 0 : y : FB[o] == none ? x : x + y : x + y;
 }
 
 static float covered(unsigned l, enum Operator o, float alphaA, float alphaB) {
-    return among(keptAlpha, l) ? FA[o] == inside ? alphaB : alphaA : sumBy(l, o, alphaA * fraction(FA[o], alphaB), alphaB * fraction(FB[o], alphaA));
+    return among(kept_alpha, l) ? FA[o] == inside ? alphaB : alphaA : sum_by(l, o, alphaA * fraction(FA[o], alphaB), alphaB * fraction(FB[o], alphaA));
 }
 
-static float cutBy(unsigned l, float x) { return among(cut, l) ? smallerOf(x, 1) : x; }
-static float whereCovered(float a, float x, float y) { return a <= 0 ? y : x; }
+static float cut_by(unsigned l, float x) { return among(cut, l) ? smaller_of(x, 1) : x; }
+static float where_covered(float a, float x, float y) { return a <= 0 ? y : x; }
 
-static float fractionAlphaBy(unsigned l, enum Operator o, float alphaA, float alphaB) {
-    float a = cutBy(l, covered(l, o, alphaA, alphaB));
-    return among(keptColour, l) || among(cleared, l) ? whereCovered(a, a, 0) : a;
+static float fraction_alpha_by(unsigned l, enum Operator o, float alphaA, float alphaB) {
+    float a = cut_by(l, covered(l, o, alphaA, alphaB));
+    return among(kept_colour, l) || among(cleared, l) ? where_covered(a, a, 0) : a;
 }
 
-static float fractionColourBy(unsigned l, enum Operator o, float CA, float alphaA, float CB, float alphaB) {
+static float fraction_colour_by(unsigned l, enum Operator o, float CA, float alphaA, float CB, float alphaB) {
     float a = covered(l, o, alphaA, alphaB);
-    float c = cutBy(l, sumBy(l, o, share(l, FA[o], CA, alphaA, alphaB), share(l, FB[o], CB, alphaB, alphaA)));
-    float x = among(overCoverage, l) ? c / a : c;
-    return among(keptColour, l) ? whereCovered(a, x, CB) : among(cleared, l) ? whereCovered(a, x, 0) : x;
+    float c = cut_by(l, sum_by(l, o, share(l, FA[o], CA, alphaA, alphaB), share(l, FB[o], CB, alphaB, alphaA)));
+    float x = among(over_coverage, l) ? c / a : c;
+    return among(kept_colour, l) ? where_covered(a, x, CB) : among(cleared, l) ? where_covered(a, x, 0) : x;
 }
 
 /* ---- Compositing.antt: the blend functions that have no steps */
-static float multiplyB(float Cb, float Cs) { return Cb * Cs; }
-static float screenB(float Cb, float Cs) { return Cb + Cs - Cb * Cs; }
+static float multiply_b(float Cb, float Cs) { return Cb * Cs; }
+static float screen_b(float Cb, float Cs) { return Cb + Cs - Cb * Cs; }
 static float D(float Cb) { return Cb <= 0.25f ? ((16 * Cb - 12) * Cb + 4) * Cb : sqrtf(Cb); }
-static float softLightB(float Cb, float Cs) { return Cs <= 0.5f ? Cb - (1 - 2 * Cs) * Cb * (1 - Cb) : Cb + (2 * Cs - 1) * (D(Cb) - Cb); }
+static float soft_light_b(float Cb, float Cs) { return Cs <= 0.5f ? Cb - (1 - 2 * Cs) * Cb * (1 - Cb) : Cb + (2 * Cs - 1) * (D(Cb) - Cb); }
 
 /* ---- BlendSteps.antt */
-static float hardLightBy(unsigned l, float Cb, float Cs) {
-    return (among(secondAtHalf, l) ? Cs < 0.5f : Cs <= 0.5f) ? multiplyB(Cb, 2 * Cs) : screenB(Cb, 2 * Cs - 1);
+static float hard_light_by(unsigned l, float Cb, float Cs) {
+    return (among(second_at_half, l) ? Cs < 0.5f : Cs <= 0.5f) ? multiply_b(Cb, 2 * Cs) : screen_b(Cb, 2 * Cs - 1);
 }
 
-static int isZero(unsigned l, float C) { return among(belowZero, l) ? C <= 0 : C == 0; }
-static int isOne(unsigned l, float C) { return among(aboveOne, l) ? 1 <= C : C == 1; }
+static int is_zero(unsigned l, float C) { return among(below_zero, l) ? C <= 0 : C == 0; }
+static int is_one(unsigned l, float C) { return among(above_one, l) ? 1 <= C : C == 1; }
 
-static float colorDodgeBy(unsigned l, float Cb, float Cs) { return isZero(l, Cb) ? 0 : isOne(l, Cs) ? 1 : smallerOf(1, Cb / (1 - Cs)); }
+static float color_dodge_by(unsigned l, float Cb, float Cs) { return is_zero(l, Cb) ? 0 : is_one(l, Cs) ? 1 : smaller_of(1, Cb / (1 - Cs)); }
 
-static float colorBurnBy(unsigned l, float Cb, float Cs) {
-    float burnt = 1 - smallerOf(1, (1 - Cb) / Cs);
-    return among(blackFirst, l) ? isZero(l, Cs) ? 0 : isOne(l, Cb) ? 1 : burnt : isOne(l, Cb) ? 1 : isZero(l, Cs) ? 0 : burnt;
+static float color_burn_by(unsigned l, float Cb, float Cs) {
+    float burnt = 1 - smaller_of(1, (1 - Cb) / Cs);
+    return among(black_first, l) ? is_zero(l, Cs) ? 0 : is_one(l, Cb) ? 1 : burnt : is_one(l, Cb) ? 1 : is_zero(l, Cs) ? 0 : burnt;
 }
 
-static float exclusionBy(unsigned l, float Cb, float Cs) { return Cb + Cs - (among(sourceDoubled, l) ? 2 * Cs * Cb : 2 * Cb * Cs); }
+static float exclusion_by(unsigned l, float Cb, float Cs) { return Cb + Cs - (among(source_doubled, l) ? 2 * Cs * Cb : 2 * Cb * Cs); }
 
-static float blendBy(unsigned l, enum Mode m, float Cb, float Cs) {
+static float blend_by(unsigned l, enum Mode m, float Cb, float Cs) {
     switch (m) {
-    case multiply: return multiplyB(Cb, Cs);
-    case screen: return screenB(Cb, Cs);
-    case overlay: return hardLightBy(l, Cs, Cb);
-    case darken: return smallerOf(Cb, Cs);
-    case lighten: return largerOf(Cb, Cs);
-    case colorDodge: return colorDodgeBy(l, Cb, Cs);
-    case colorBurn: return colorBurnBy(l, Cb, Cs);
-    case hardLight: return hardLightBy(l, Cb, Cs);
-    case softLight: return softLightB(Cb, Cs);
+    case multiply: return multiply_b(Cb, Cs);
+    case screen: return screen_b(Cb, Cs);
+    case overlay: return hard_light_by(l, Cs, Cb);
+    case darken: return smaller_of(Cb, Cs);
+    case lighten: return larger_of(Cb, Cs);
+    case color_dodge: return color_dodge_by(l, Cb, Cs);
+    case color_burn: return color_burn_by(l, Cb, Cs);
+    case hard_light: return hard_light_by(l, Cb, Cs);
+    case soft_light: return soft_light_b(Cb, Cs);
     case difference: return fabsf(Cb - Cs);
-    case exclusion: return exclusionBy(l, Cb, Cs);
+    case exclusion: return exclusion_by(l, Cb, Cs);
     }
     abort();
 }
 
-static float sourceTerm(unsigned l, float Cs, float as, float ab) { return among(sourceGrouped, l) ? as * (1 - ab) * Cs : as * ((1 - ab) * Cs); }
-static float blendTerm(unsigned l, float v, float as, float ab) {
-    return among(premultiplied, l) ? v : among(blendGrouped, l) ? as * ab * v : as * (ab * v);
+static float source_term(unsigned l, float Cs, float as, float ab) { return among(source_grouped, l) ? as * (1 - ab) * Cs : as * ((1 - ab) * Cs); }
+static float blend_term(unsigned l, float v, float as, float ab) {
+    return among(premultiplied, l) ? v : among(blend_grouped, l) ? as * ab * v : as * (ab * v);
 }
-static float backdropTerm(float as, float Cb, float ab) { return (1 - as) * ab * Cb; }
+static float backdrop_term(float as, float Cb, float ab) { return (1 - as) * ab * Cb; }
 
-static float mixedBy(unsigned l, float v, float Cs, float as, float Cb, float ab) {
-    float x = sourceTerm(l, Cs, as, ab), y = blendTerm(l, v, as, ab), z = backdropTerm(as, Cb, ab);
-    if (!among(distributed, l)) return as * unitOf((1 - ab) * Cs + ab * v) + z;
-    return among(dropped, l) ? y : among(uncoveredFirst, l) ? y + (x + z) : x + y + z;
+static float mixed_by(unsigned l, float v, float Cs, float as, float Cb, float ab) {
+    float x = source_term(l, Cs, as, ab), y = blend_term(l, v, as, ab), z = backdrop_term(as, Cb, ab);
+    if (!among(distributed, l)) return as * unit_of((1 - ab) * Cs + ab * v) + z;
+    return among(dropped, l) ? y : among(uncovered_first, l) ? y + (x + z) : x + y + z;
 }
 
-static float blendAlphaBy(unsigned l, float as, float ab) { return among(unionAlpha, l) ? as + ab - as * ab : as + ab * (1 - as); }
-static float storedBy(unsigned l, float x, float a) { return among(divided, l) ? among(zeroUncovered, l) ? 0 < a ? x / a : 0 : x / a : x; }
-static float clampBy(int k, unsigned l, float x) { return among(k, l) ? unitOf(x) : x; }
+static float blend_alpha_by(unsigned l, float as, float ab) { return among(union_alpha, l) ? as + ab - as * ab : as + ab * (1 - as); }
+static float stored_by(unsigned l, float x, float a) { return among(divided, l) ? among(zero_uncovered, l) ? 0 < a ? x / a : 0 : x / a : x; }
+static float clamp_by(int k, unsigned l, float x) { return among(k, l) ? unit_of(x) : x; }
 static float argument(unsigned l, float C, float alpha) { return among(premultiplied, l) ? C * alpha : C; }
 
-static float blendColourBy(unsigned l, enum Mode m, float Cs, float as, float Cb, float ab) {
-    float v = clampBy(clampedBlend, l, blendBy(l, m, argument(l, Cb, ab), argument(l, Cs, as)));
-    return clampBy(clampedResult, l, storedBy(l, mixedBy(l, v, Cs, as, Cb, ab), blendAlphaBy(l, as, ab)));
+static float blend_colour_by(unsigned l, enum Mode m, float Cs, float as, float Cb, float ab) {
+    float v = clamp_by(clamped_blend, l, blend_by(l, m, argument(l, Cb, ab), argument(l, Cs, as)));
+    return clamp_by(clamped_result, l, stored_by(l, mixed_by(l, v, Cs, as, Cb, ab), blend_alpha_by(l, as, ab)));
 }
 
 /* ---- the 24 operators of the two documents, Porter and Duff's first */
@@ -150,12 +150,12 @@ static struct defined definedAt(int i) {
     return (struct defined){porterDuff, which, listed.steps, (int64_t)found, listed.name, porterDuff ? fractionStepNames : blendStepNames};
 }
 
-static float colourBy(const struct defined *o, unsigned l, float s, float sa, float d, float da) {
-    return o->porterDuff ? fractionColourBy(l, o->which, s, sa, d, da) : blendColourBy(l, o->which, s, sa, d, da);
+static float colour_by(const struct defined *o, unsigned l, float s, float sa, float d, float da) {
+    return o->porterDuff ? fraction_colour_by(l, o->which, s, sa, d, da) : blend_colour_by(l, o->which, s, sa, d, da);
 }
 
-static float alphaBy(const struct defined *o, unsigned l, float sa, float da) {
-    return o->porterDuff ? fractionAlphaBy(l, o->which, sa, da) : blendAlphaBy(l, sa, da);
+static float alpha_by(const struct defined *o, unsigned l, float sa, float da) {
+    return o->porterDuff ? fraction_alpha_by(l, o->which, sa, da) : blend_alpha_by(l, sa, da);
 }
 
 /* ---- words and random numbers */
@@ -246,8 +246,8 @@ static void compose(const struct defined *o, size_t pixels) {
 /* A channel of a pixel (3 is alpha) by the formula with the steps l. */
 static float valueBy(const struct defined *o, unsigned l, size_t pixel, int channel) {
     const uint32_t *s = source + 4 * pixel, *d = destination + 4 * pixel;
-    if (channel == 3) return alphaBy(o, l, number(s[3]), number(d[3]));
-    return colourBy(o, l, number(s[channel]), number(s[3]), number(d[channel]), number(d[3]));
+    if (channel == 3) return alpha_by(o, l, number(s[3]), number(d[3]));
+    return colour_by(o, l, number(s[channel]), number(s[3]), number(d[channel]), number(d[3]));
 }
 
 /* The first channel in which the pixel is not the formula's, or 4. */
@@ -322,7 +322,7 @@ static void fillKind(int kind, size_t pixels) {
 
 /* The step that says in which form a colour is stored: multiplied by alpha, or over it. Without steps the formulas are the documents'. */
 static float documentRed(const struct defined *o, size_t pixel) {
-    unsigned form = o->steps & (o->porterDuff ? 1u << overCoverage : 1u << divided);
+    unsigned form = o->steps & (o->porterDuff ? 1u << over_coverage : 1u << divided);
     return valueBy(o, form, pixel, 0);
 }
 
