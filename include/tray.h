@@ -1,6 +1,6 @@
 /* tray.h: the C interface of libtray.a, the proved tray compositor.
  *
- * Build the library with `rt staticlib tray`; link target/staticlib/libtray.a and -lm. Or install both with tools/install, and
+ * Build the library with tools/library; link target/staticlib/libtray.a and -lm. Or install both with tools/install, and
  * take `pkg-config --cflags --libs libtray`. examples/job.c is a whole host.
  *
  * Words. A picture, the source samples and the arguments are lists of words: the bits of binary32 floats. A host passes

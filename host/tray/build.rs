@@ -1,5 +1,5 @@
 //! Links libtray.a. TRAY_LIB names the folder that has it, relative to whoever calls cargo; without it target/staticlib of
-//! the repository is taken, where `rt staticlib tray` puts it.
+//! the repository is taken, where tools/library puts it.
 
 use std::env;
 use std::path::PathBuf;
@@ -23,7 +23,7 @@ fn main() {
     let archive = folder.join("libtray.a");
     if !archive.exists() {
         eprintln!(
-            "{} is not there: run `rt staticlib tray`, or set TRAY_LIB to the folder that has it",
+            "{} is not there: run tools/library in the repository, or set TRAY_LIB to the folder that has it",
             archive.display()
         );
         std::process::exit(1);

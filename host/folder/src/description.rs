@@ -15,8 +15,8 @@
 //!
 //! A folder of edition 3 was made when jobs had no numbers: its mark is the position alone, and it is taken over with the number 0
 //! (list.rs says how such a mark is lent as two numbers). One of edition 2 was made when layers had no windows either: its table
-//! has ten numbers a layer, and it is taken over with full windows, with which the library makes the same pictures (`full-held`
-//! and `pictures-unwindowed`, crates/job/proofs/Windows.antt). In both the mark and the checkpoint keep their meaning. A folder stays
+//! has ten numbers a layer, and it is taken over with full windows, with which the library makes the same pictures (`full_held`
+//! and `pictures_unwindowed`, crates/job/proofs/Windows.antt). In both the mark and the checkpoint keep their meaning. A folder stays
 //! of its edition, and nothing in it is rewritten but what any worker writes: a loss of power never finds it half taken over, the
 //! digests, which are of the files as they are, hold, and the command that made it can go on with it.
 
