@@ -2,6 +2,7 @@
 // The match chooses an operator's function; a mathematical operator names its convention, and itself for its blend. Interpolate is not carried;
 // Displace, Distort and Blur have composite.rs's line, and composition goes another way for them.
 #![tactic(auto)]
+
 ghost use Rattle.std.specs.Prelude.{◌≡◌};
 ghost use Rattle.pixels.specs.Pixel.{pixel_of};
 
