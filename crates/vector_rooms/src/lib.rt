@@ -1,6 +1,7 @@
 // The lists that lines share: an array for each, with room for the longest, and the counts of those that `=` may stand for. How a line's lists are read
 // over what they were, and whether a job's memory is left as a line says.
 #![tactic(auto)]
+
 ghost use Rattle.std.specs.Prelude.{◌≡◌};
 ghost use Rattle.lent.specs.Lent.{before, after};
 ghost use Rattle.vector_rooms.specs.Rooms.{shape_at, layers_found, layers_left, layers_at};
