@@ -1,5 +1,5 @@
 -- The lists that lines share (oracle/README.md): each is read over what it was, and its count stands at its place among the counts: DST 0, TABLE 1, ARGS 2,
--- SAMPLES 3, INPUT 4, WORK0 5, WORK1 6, MARK 7. `..Found` and `..Left` are the lists that a function is lent, by its parameters, as it finds them and as it
+-- SAMPLES 3, INPUT 4, WORK0 5, WORK1 6, MARK 7. `.._found` and `.._left` are the lists that a function is lent, by its parameters, as it finds them and as it
 -- leaves them. Definitions only.
 use Rattle.std.specs.Prelude.{List, ℕ, eqb, ℤ, get_or, set, take}
 use Rattle.lent.specs.Lent.{Lent, Shown, before, after}
