@@ -1,6 +1,7 @@
 // One function a kind of line: it reads what is asked, calls the library, and holds the answer against what the line says. Each answers the place
 // after the line's last token, or NOWHERE where the line is malformed or its answer is another.
 #![tactic(auto)]
+
 ghost use Rattle.std.specs.Prelude.{◌≡◌, pos};
 ghost use Rattle.lent.specs.Lent.{before, after};
 ghost use Rattle.vector_lines.specs.Numbers.{largest, number_at};
