@@ -1,5 +1,6 @@
 // The lines of jobs: calls one after the other on the same work buffers and checkpoint.
 #![tactic(auto)]
+
 ghost use Rattle.std.specs.Prelude.{◌≡◌, get_or};
 ghost use Rattle.lent.specs.Lent.{before};
 ghost use Rattle.vector_rooms.specs.Rooms.{lists_found, memory_found, memory_left, inputs_in};
