@@ -2,6 +2,7 @@
 // spoiled rows, which it must not take, and for rows of no step; and where the first wrong row stands. A row has the form of a line of oracle/README.md. The
 // rows were worked out by tools/float-vectors/vectors.rs.
 #![tactic(auto)]
+
 mod rows;
 mod steps;
 

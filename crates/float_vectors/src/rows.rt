@@ -12,6 +12,7 @@ use verdicts::{asked, count_lines, first, line_end, put_place};
 const WORD: u64 = 0xffff_ffff;
 
 // The place after a row's result, or NOWHERE where the row is malformed or its step gives another.
+#[tactic(auto, unfolding(crate::specs::Steps::taken_at, crate::specs::Steps::second_at, crate::specs::Steps::third_at, crate::specs::Steps::result_at))]
 fn taken(row: &[u8]) -> usize
     ensures { result ≡ taken_at row.now }
 {
@@ -35,6 +36,7 @@ fn taken(row: &[u8]) -> usize
 }
 
 // Runs the step of each row, and keeps where its answer ends.
+#[tactic(auto, using(verdicts::proofs::Splitting::none_replayed, verdicts::proofs::Splitting::all_replayed))]
 fn replay(text: &[u8], places: &mut [usize])
     ensures { after places ≡ places_of taken_at 0 (lines_of text.now) (before places) }
 {
@@ -51,6 +53,7 @@ fn replay(text: &[u8], places: &mut [usize])
 
 // Runs the step of each row of a text and counts the rows that are right and those that are wrong, by their steps' letters; the number of the first that is
 // wrong, 0 where none is.
+#[tactic(auto, using(verdicts::proofs::Splitting::judged))]
 pub fn judge(
     text: &[u8],
     places: &mut [usize],

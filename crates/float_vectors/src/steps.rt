@@ -29,6 +29,7 @@ fn byte(v: u8) -> u64
 }
 
 // The side of an axis: `locate` is asked for 1 to 2^24.
+#[tactic(auto, unfolding(crate::specs::Steps::side_of))]
 fn side_of(b: u32) -> usize
     ensures { (result ≡ side_of b) × (1 ≤ result) × (result ≤ 0x100_0000) }
 {
@@ -66,6 +67,7 @@ fn along(x: f32, side: usize) -> u64
     wide(found.along)
 }
 
+#[tactic(auto, unfolding(crate::specs::Steps::steps_of))]
 fn step_of(step: u64, a: f32, b: f32, c: f32, side: usize) -> u64
     requires { (step < 17) × (1 ≤ side) × (side ≤ 0x100_0000) }
     ensures { result ≡ get_or (steps_of a b c side) step 0 }
@@ -91,6 +93,7 @@ fn step_of(step: u64, a: f32, b: f32, c: f32, side: usize) -> u64
     }
 }
 
+#[tactic(auto, unfolding(crate::specs::Steps::given_of))]
 pub fn given(step: u64, a: u32, b: u32, c: u32) -> u64
     requires { step < 17 }
     ensures { result ≡ given_of step a b c }
