@@ -1,6 +1,7 @@
 // The names of the operators: `from_name` (composite.rs 351 to 376) on bytes of any length.
 // The contracts cite specs/Names, the readable list of the names, and specs/Packed, how the code keeps them.
 #![tactic(auto)]
+
 ghost use Rattle.std.specs.Prelude.{◌≡◌, ◌+◌, ◌≤◌, length, get_or, take, drop};
 ghost use Rattle.lent.specs.Lent.{before};
 ghost use Rattle.names.specs.Names.{is_kept, lower, key_of, same, from_name};
@@ -30,6 +31,7 @@ enum Place {
 }
 
 // Whether a byte counts: '-', '_' and space do not.
+#[tactic(auto, unfolding(crate::specs::Names::is_kept))]
 fn is_kept(b: u8) -> bool
     ensures { result ≡ is_kept b }
 {
@@ -42,6 +44,7 @@ fn is_kept(b: u8) -> bool
     b != b' '
 }
 
+#[tactic(auto, unfolding(crate::specs::Names::lower))]
 fn lowered(b: u8) -> u8
     ensures { result ≡ lower b }
 {

@@ -7,6 +7,7 @@ ghost use Rattle.std.specs.Prelude.{◌≡◌, ◌<◌, get_or};
 ghost use Rattle.names.specs.Packed.{letters, lengths, aliased, eight_of, byte_of};
 
 // The k-th eight of the letters.
+#[tactic(auto, using(crate::proofs::Eights::past_end), unfolding(crate::specs::Packed::letters, crate::specs::Names::entries))]
 fn eight_letters(k: usize) -> u64
     ensures { result ≡ eight_of letters k }
 {
@@ -94,6 +95,7 @@ fn eight_letters(k: usize) -> u64
 }
 
 // The k-th eight of the lengths.
+#[tactic(auto, using(crate::proofs::Eights::past_end), unfolding(crate::specs::Packed::lengths, crate::specs::Names::entries))]
 fn eight_lengths(k: usize) -> u64
     ensures { result ≡ eight_of lengths k }
 {
@@ -114,6 +116,7 @@ fn eight_lengths(k: usize) -> u64
 }
 
 // The k-th eight of the aliases' numbers.
+#[tactic(auto, using(crate::proofs::Eights::past_end), unfolding(crate::specs::Packed::aliased))]
 fn eight_aliased(k: usize) -> u64
     ensures { result ≡ eight_of aliased k }
 {
