@@ -23,6 +23,11 @@ rest_at l n i = rw (take_all (length l - 4 * n) (drop (4 * n) l) (simp length-dr
 pub filled_at : (f : ℕ → Words) {own : List ℕ} (before : List ℕ) (n i : ℕ) → own ≡ filled f n before → i < n → rgba_at own 4 i ≡ f i
 filled_at f before n i e h = rw e (flat_pixel f 0 n (drop (4 * n) before) i h) ∙ ap f (zero-add i)
 
+-- a run of no pixels
+pub none_filled : (f : ℕ → Words) (n : ℕ) (o : List ℕ) → n ≡ 0 → o ≡ filled f n o
+unfolding flat
+none_filled f n o e = rw e
+
 -- one pixel more
 pub put_more : (f : ℕ → Words) (i : ℕ) {out : List ℕ} (o : List ℕ) {w : Words} → out ≡ filled f i o → 4 * (i + 1) ≤ length o → w ≡ f i → put_of out i w ≡ filled f (i + 1) o
 put_more f i o {w} e h = rw e (filled_more f i o w h)

@@ -10,6 +10,7 @@ use operators::CompositeOp;
 use pixels::Params;
 
 // `arg`: argument i of so many, or the default where it is missing or not finite.
+#[tactic(auto, unfolding(crate::specs::Arguments::arg_by))]
 fn arg(count: usize, i: usize, word: u32, default: f32) -> f32
     ensures { result ≡ arg_by count i (value_of word) default }
 {
@@ -23,6 +24,7 @@ fn arg(count: usize, i: usize, word: u32, default: f32) -> f32
 }
 
 // Argument i of so many as it stands; a missing one is 0.
+#[tactic(auto, unfolding(crate::specs::Arguments::raw_by))]
 fn raw(count: usize, i: usize, word: u32) -> f32
     ensures { result ≡ raw_by count i (value_of word) }
 {
@@ -101,6 +103,7 @@ fn raw_params(args: Args) -> Params
 }
 
 // What the operator reads of its arguments.
+#[tactic(auto, unfolding(crate::specs::Arguments::params_of))]
 pub fn params(op: CompositeOp, args: Args) -> Params
     ensures { result ≡ params_of op args }
 {

@@ -1,6 +1,7 @@
 // Composition: one layer on one picture, as `compose_float` of composite.rs has it. The contracts cite specs/Compose, Arguments and Single, and, of what
 // the code works out once a layer, specs/Plans and Ready.
 #![tactic(auto)]
+
 pub mod arguments; // arguments.rt: an operator's arguments with their defaults
 pub mod pixel; // pixel.rt: one pixel of the result
 pub mod plans; // plans.rt: a layer's plan

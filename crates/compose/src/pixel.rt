@@ -40,6 +40,7 @@ pub fn covers(p: Plan, index: Index, x: usize, y: usize) -> bool
 }
 
 // The source's pixel at an index; off the source (0, 0, 0, 0).
+#[tactic(auto, unfolding(crate::specs::Compose::source_pixel))]
 pub fn source_pixel(p: Plan, source: &[u32], index: Index) -> Rgba
     requires { (Ready p (length source.now)) × (Under (p.width * p.height) index) }
     ensures { result ≡ source_pixel source.now p.channels index }
@@ -55,6 +56,7 @@ pub fn source_pixel(p: Plan, source: &[u32], index: Index) -> Rgba
     }
 }
 
+#[tactic(auto, unfolding(crate::specs::Compose::map_coordinate))]
 fn map_coordinate(displace: bool, at: usize, v: f32, by: f32) -> f32
     requires { at ≤ slack }
     ensures { result ≡ map_coordinate displace at v by }
@@ -93,6 +95,7 @@ fn painted(p: Plan, s: Rgba, d: Rgba) -> Rgba
     r.1
 }
 
+#[tactic(auto, unfolding(crate::specs::Plans::result_by))]
 fn result(p: Plan, picture: &[u32], channels: usize, s: Rgba, d: Rgba, x: usize, y: usize) -> Rgba
     requires { Beneath p (length picture.now) channels x y }
     ensures { result ≡ result_by p (values_at picture.now channels) s d x y }
@@ -113,6 +116,7 @@ fn written_word(on: bool, v: f32, kept: u32) -> u32
     kept
 }
 
+#[tactic(auto, unfolding(crate::specs::Compose::written_of))]
 pub fn written(m: ChannelMask, v: Rgba, kept: Words) -> Words
     ensures { result ≡ written_of m v kept }
 {
@@ -125,6 +129,7 @@ pub fn written(m: ChannelMask, v: Rgba, kept: Words) -> Words
 }
 
 // The pixel (x, y) of the result, from its own words beneath and, for a map, the whole picture beneath. Off the window nothing is computed.
+#[tactic(auto, unfolding(crate::specs::Plans::composed_by))]
 pub fn composed(
     p: Plan,
     source: &[u32],
