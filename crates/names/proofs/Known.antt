@@ -1,13 +1,17 @@
--- What a place in the list of names says. Assumes nothing.
-use mathlib.Core.Path.{◌≡◌, refl, ap}
+-- What a place in the list of names says, and its operator's number. Assumes nothing.
+use mathlib.Core.Path.{◌≡◌, refl, ap, ◌∙◌}
 use mathlib.Core.Bool.{Bool, true, false, cond}
 use mathlib.Core.List.{List, [], ◌∷◌}
-use Prim.Native.Nat.{ℕ, suc, ◌+◌}
+use Prim.Native.Nat.{ℕ, suc, ◌+◌, ◌-◌, ◌<◌, ◌≤◌}
 use native.Mathlib.Nat.{add-zero, add-suc, suc-add, zero-add}
-use lib.ListN.{get_or}
+use native.Mathlib.Omega.{arith}
+use lib.Dec.{eqb, eqb→eq}
+use lib.ListN.{get_or, take}
+use lib.Seq.{get_or-take, get_or-drop}
+use Rattle.laws.proofs.Tables.{at_each}
 use Rattle.operators.specs.Operators.{number_of}
 use Rattle.names.specs.Names.{Entry, entries, same, lookup}
-use Rattle.names.specs.Packed.{words, numbers_of, numbers, place_from}
+use Rattle.names.specs.Packed.{words, numbers_of, numbers, aliased, place_from}
 use Rattle.names.specs.declared.Named.{Named}
 use Rattle.names.specs.declared.Named.TheVariants.{Operator, Unknown}
 use Rattle.names.specs.declared.Place.{Place}
@@ -33,3 +37,15 @@ by_place x (e ∷ es) i h =
 pub place_known : (x : List ℕ) → at_place (place_from 0 x (words entries)) ≡ lookup x entries
 unfolding numbers
 place_known x = by_place x entries 0 (λ j. rw zero-add)
+
+-- an operator's own name stands at its number, a test computed over the first 70
+pub own_place : (k : ℕ) → k < 70 → k ≡ get_or numbers k 0
+unfolding numbers entries
+own_place k h = eqb→eq k _ (at_each (λ i n. eqb i n) 0 (take 70 numbers) tt k h) ∙ get_or-take 70 numbers k 0 h
+
+-- the others are the aliases'
+pub of_alias : (k : ℕ) → 70 ≤ k → get_or aliased (k - 70) 0 ≡ get_or numbers k 0
+unfolding numbers aliased entries
+of_alias k h =
+    let e : 70 + (k - 70) ≡ k = omega arith in
+    get_or-drop 70 numbers (k - 70) 0 ∙ ap (λ (x : ℕ). get_or numbers x 0) e

@@ -3,7 +3,6 @@
 #![tactic(auto)]
 
 ghost use Rattle.std.specs.Prelude.{◌≡◌, ◌+◌, ◌≤◌, length, get_or, take, drop};
-ghost use Rattle.lent.specs.Lent.{before};
 ghost use Rattle.names.specs.Names.{is_kept, lower, key_of, same, from_name};
 ghost use Rattle.names.specs.Packed.{letters, lengths, most_letters, numbers, cut, place_from};
 
@@ -116,6 +115,7 @@ fn find(s: &[u8]) -> Place
 }
 
 // The number of the operator that the k-th name names: an operator's own name stands at its number.
+#[tactic(auto, using(crate::proofs::Known::own_place, crate::proofs::Known::of_alias))]
 fn number(k: usize) -> u64
     ensures { result ≡ get_or numbers k 0 }
 {

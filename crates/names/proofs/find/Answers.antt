@@ -12,30 +12,30 @@ loop-k-init c = record { fits = omega (arith, names_packed.2); as_whole = refl }
 
 pub reads_at-requires : goal.reads_at-requires
 reads_at-requires c =
-    reads_within c.loop-k.k c.length_of-m.result c.loop-k.at c.loop-k-test.true c.length_of-m.ensures c.loop-k.invariant.fits
+    reads_within c.loop-k.k c.length_of-m.result c.loop-k.at (omega arith) c.length_of-m.ensures c.loop-k.invariant.fits
     (key_of c.args.s.now) c.key_length-n.result c.key_length-n.ensures (omega arith)
 
 pub returns-then-reads_at : goal.returns-then-reads_at
 returns-then-reads_at c =
     sym
     (c.loop-k.invariant.as_whole
-    ∙ this_one c.loop-k.k c.length_of-m.result c.loop-k.at c.loop-k-test.true c.length_of-m.ensures c.loop-k.invariant.fits
+    ∙ this_one c.loop-k.k c.length_of-m.result c.loop-k.at (omega arith) c.length_of-m.ensures c.loop-k.invariant.fits
     (key_of c.args.s.now) c.key_length-n.result c.key_length-n.ensures (omega arith) (sym c.reads_at.ensures ∙ c.if-reads_at.true))
 
 pub overflow_add-at : goal.overflow_add-at
 overflow_add-at c = record {
-  fits = room c.loop-k.k c.length_of-m.result c.loop-k.at c.loop-k-test.true c.length_of-m.ensures c.loop-k.invariant.fits;
+  fits = room c.loop-k.k c.length_of-m.result c.loop-k.at (omega arith) c.length_of-m.ensures c.loop-k.invariant.fits;
 }
 
 pub loop-k-preserved : goal.loop-k-preserved
 loop-k-preserved c =
-    let n = not_this c.loop-k.k c.length_of-m.result c.loop-k.at c.loop-k-test.true c.length_of-m.ensures c.loop-k.invariant.fits
+    let n = not_this c.loop-k.k c.length_of-m.result c.loop-k.at (omega arith) c.length_of-m.ensures c.loop-k.invariant.fits
     (key_of c.args.s.now) c.key_length-n.result c.key_length-n.ensures in
-    let o = not_its_length c.loop-k.k c.length_of-m.result c.loop-k.at c.loop-k-test.true c.length_of-m.ensures c.loop-k.invariant.fits
+    let o = not_its_length c.loop-k.k c.length_of-m.result c.loop-k.at (omega arith) c.length_of-m.ensures c.loop-k.invariant.fits
     (key_of c.args.s.now) c.key_length-n.result c.key_length-n.ensures in
     let s : search_from (key_of c.args.s.now) letters lengths c.loop-k.at c.loop-k.k ≡ search_from (key_of c.args.s.now) letters lengths (c.loop-k.at + c.length_of-m.result) (c.loop-k.k + 1) = grind (arith, n, o) in
     record {
-      fits = fits_after c.loop-k.k c.length_of-m.result c.loop-k.at c.loop-k-test.true c.length_of-m.ensures c.loop-k.invariant.fits;
+      fits = fits_after c.loop-k.k c.length_of-m.result c.loop-k.at (omega arith) c.length_of-m.ensures c.loop-k.invariant.fits;
       as_whole = c.loop-k.invariant.as_whole ∙ s;
     }
 
