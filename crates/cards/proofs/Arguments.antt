@@ -10,7 +10,7 @@ use lib.ListN.{length, drop, set}
 use borrow.Author.Tests.{not-true, not-false}
 use Rattle.layers.specs.Limits.{arg_words}
 use Rattle.cards.specs.declared.holes.Given.{Given}
-use Rattle.cards.specs.Forms.{Argument, word, Words, no_words, words, one_more_word, after_argument, read_argument, read_words, as_arguments}
+use Rattle.cards.specs.Forms.{Argument, Words, no_words, words, one_more_word, after_argument, read_argument, read_words, as_arguments}
 use Rattle.cards.specs.Steps.{argument_by, put, Found, nothing, found, found_in}
 
 -- what is found with those in the list and those that are left

@@ -17,7 +17,6 @@ use Rattle.names.specs.declared.Named.TheVariants.{Operator, Unknown}
 use Rattle.numerals.specs.Numbers.{decimal_of, hex_of}
 use Rattle.numerals.specs.declared.Integer.{Integer}
 use Rattle.numerals.specs.declared.Integer.TheVariants as I
-use Rattle.numerals.specs.declared.Number.TheVariants.{Of, Not}
 use Rattle.numerals.proofs.Bools.{split}
 use Rattle.cards.specs.Cells.{Cell, name, number, name_hole, number_hole, arguments_hole, column_of, words_in}
 use Rattle.cards.specs.Forms.{bad, scanned, is_end, word_of, rest_of, named, numbered, cell_of, held, read_word, read_byte, read_one}

@@ -27,6 +27,7 @@ pub struct Given {
     pub next: usize,
 }
 
+#[tactic(auto, unfolding(crate::specs::Steps::is_letter))]
 fn is_letter(b: u8) -> bool
     ensures { result ≡ is_letter b }
 {
@@ -74,6 +75,7 @@ fn value(c: u8, s: &[u8]) -> Integer
 }
 
 // Whether a byte ends a word.
+#[tactic(auto, unfolding(crate::specs::Forms::is_end))]
 fn is_end(b: u8) -> bool
     ensures { result ≡ is_end b }
 {
@@ -227,6 +229,7 @@ pub fn one(s: &[u8], at: usize, c: u8, args: &mut [u32], w: usize) -> Part
 }
 
 // How many holes a byte of a form is.
+#[tactic(auto, unfolding(crate::specs::Forms::is_hole))]
 pub fn holes(c: u8) -> usize
     ensures { result ≡ cond (is_hole c) 1 0 }
 {

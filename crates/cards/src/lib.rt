@@ -1,6 +1,7 @@
 // A job as text: a card (document 02, A.2). The reader judges the whole card first, and fills the lent lists only where it accepts it.
 // The contracts cite specs/; Cells, Forms and Card say what a card is, Answers what is answered and filled.
 #![tactic(auto)]
+
 mod copies; // copies.rt: a list copied into another
 mod holes; // holes.rt: what stands in a hole of a line's form
 mod lines; // lines.rt: a line's form, and lines of one form
