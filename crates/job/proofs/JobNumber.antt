@@ -22,11 +22,11 @@ use Rattle.layers.specs.Inputs.{Inputs, verdict, job_fault}
 use Rattle.job.specs.declared.Answer.{Answer}
 use Rattle.job.specs.declared.Write.{Write}
 use Rattle.job.specs.declared.Write.TheVariants.{Work0, Work1, Checkpoint}
-use Rattle.job.specs.Memory.{Mem, mem_of, position_of, job_number_of, put}
+use Rattle.job.specs.Memory.{Mem, position_of, job_number_of, put}
 use Rattle.job.specs.Job.{pixel_count, phase_at, pixel_at, end_of, memory_fault, call_fault, refusal}
 use Rattle.job.specs.Call.{phase_pixel, write_at, run_of, made_of, Outcome, outcome, accepted_of, call_of}
 use Rattle.job.specs.Loans.{Loan, of_work0, of_work1, of_checkpoint, lent}
-use Rattle.job.specs.Model.{Call, allowed, cut, refused, Seen}
+use Rattle.job.specs.Model.{Call, allowed, cut, refused}
 use Rattle.job.specs.Demand.{program_of, history, memory_after, FairCall, Demand3}
 use Rattle.job.specs.Uses.{Sized}
 use Rattle.job.specs.Unnumbered.{unnumbered_memory_fault, unnumbered_fault, unnumbered_of, unnumbered_program, without_number, seen_without, OwnCall, Own}

@@ -44,7 +44,7 @@ module _ (i : Inputs) (m : Mem) (allowance : ℕ) where
   unfolding UsesFrom stored
   leave u r ws e v zero h = e ∙ ap after (sym (add-zero u))
   leave u r [] e v (suc n) h = absurd (omega arith)
-  leave u r (w ∷ ws) e (d, v) (suc n) h = leave (u + 1) (put w r) ws (one e d) v n (omega arith) ∙ ap after (omega arith)
+  leave u r (w ∷ ws) e v (suc n) h = leave (u + 1) (put w r) ws (one e v.0) v.1 n (omega arith) ∙ ap after (omega arith)
 
   entries : (u : ℕ) (r : Mem) (ws : List Write) → Progress i m → r ≡ after u → UsesFrom b u r ws
       → ws ≡ take (length ws) (drop (5 * position_of m + u) (write_sequence i))
@@ -83,10 +83,10 @@ unfoldable pub uses_of : Batch → (uses n : ℕ) → Mem → List Write
 uses_of b u zero m = []
 uses_of b u (suc n) m = let w = write_at b.inputs m (5 * b.start + u) in w ∷ uses_of b (u + 1) n (put w m)
 
-can : {b : Batch} {u : ℕ} {m : Mem} (n : ℕ) → Midway b u m → u + n ≤ b.due → UsesFrom b u m (uses_of b u n m) × (length (uses_of b u n m) ≡ n)
+can : {b : Batch} (n : ℕ) {u : ℕ} {m : Mem} → Midway b u m → u + n ≤ b.due → UsesFrom b u m (uses_of b u n m) × (length (uses_of b u n m) ≡ n)
 unfolding uses_of UsesFrom
 can zero h l = (tt, refl)
-can {b} {u} {m} (suc n) h l =
+can {b} (suc n) {u} {m} h l =
     let x : NextUse b u m (write_at b.inputs m (5 * b.start + u)) = record { midway = h; left = omega arith; next = refl } in
     let r = can n (ran_midway (use_ran x (refl, refl)) h) (omega arith) in
     ((x, r.0), ap suc r.1)

@@ -1,6 +1,6 @@
 -- What the functions between a call and `store` ask, and what they leave. Definitions only.
 use Rattle.std.specs.Prelude.{◌≡◌, List, ℕ, ◌+◌, ◌*◌, ◌/◌, ◌%◌, ◌<◌, ◌≤◌, ℤ, pos, length}
-use Rattle.std.specs.Borrow.{Bor}
+use Rattle.std.specs.Borrow.{Bor, MutBor}
 use Rattle.lent.specs.Lent.{Shown}
 use Rattle.faults.specs.Faults.{NONE}
 use Rattle.layers.specs.Inputs.{inputs_of, job_fault}
@@ -20,7 +20,7 @@ most_position = 4611686018427387904
 -- ---- a function's parameters, as its contract names them
 
 -- the memory that it is lent, in a `requires`
-abbrev pub held : (work0 work1 checkpoint : Bor (List ℕ)) → Mem
+abbrev pub held : (work0 work1 checkpoint : MutBor (List ℕ)) → Mem
 held work0 work1 checkpoint = mem_of work0.now work1.now checkpoint.now
 
 -- the writes of an accepted call, by its numbers and the lists of its inputs

@@ -2,7 +2,7 @@
 ghost use Rattle.std.specs.Prelude.{◌≡◌, ◌+◌, ◌*◌, ◌≤◌, eqb};
 ghost use Rattle.faults.specs.Faults.{NONE};
 ghost use Rattle.layers.specs.Inputs.{inputs_of, inputs};
-ghost use Rattle.job.specs.Memory.{found, left, job_number_of};
+ghost use Rattle.job.specs.Memory.{mem_of, found, left, job_number_of};
 ghost use Rattle.job.specs.Steps.{held, most_position};
 ghost use Rattle.job.specs.Job.{memory_fault, call_fault, acceptance};
 ghost use Rattle.job.specs.Call.{outcome, accepted_of, call_of};
@@ -16,6 +16,7 @@ use pictures::Shape;
 use pictures::shapes::{channels_of, height_of, natural, width_of};
 
 // The fault of the memory that is lent to a call under the number `job`.
+#[tactic(auto, unfolding(crate::specs::Job::memory_fault))]
 fn memory_fault(
     pixels: usize,
     end: usize,
@@ -25,7 +26,7 @@ fn memory_fault(
     checkpoint: &[u64],
 ) -> u64
     requires { 4 * pixels ≤ most_position }
-    ensures { result ≡ memory_fault pixels end job (found work0 work1 checkpoint) }
+    ensures { result ≡ memory_fault pixels end job (mem_of work0.now work1.now checkpoint.now) }
 {
     if work0.len() != 4 * pixels {
         return Fault::WORK;
@@ -58,7 +59,7 @@ fn fault(
     work1: &[u32],
     checkpoint: &[u64],
 ) -> Verdict
-    ensures { result ≡ call_fault (inputs shape dst count table args samples) job (found work0 work1 checkpoint) }
+    ensures { result ≡ call_fault (inputs shape dst count table args samples) job (mem_of work0.now work1.now checkpoint.now) }
 {
     let v = check(shape, dst, count, table, args, samples);
     if v.number != Fault::NONE {

@@ -2,6 +2,7 @@
 // checkpoint, so that a call cut at any write leaves what a later call goes on from. The contracts cite specs/Job.antt, Call and Memory, and
 // beneath the call Uses and Steps.
 #![tactic(auto)]
+
 pub mod call; // call.rt: a call of a job
 mod writes; // writes.rt: the writes of an accepted call, span by span
 mod fill; // fill.rt: pixels of one phase, composed into a buffer
