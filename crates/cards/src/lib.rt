@@ -91,6 +91,7 @@ fn read_lines(text: &[u8], table: &mut [i64], args: &mut [u32]) -> Answer
 }
 
 // The card that a text is, read into the layer table and the arguments.
+#[tactic(auto, using(crate::proofs::Outcome::table_other, crate::proofs::Outcome::args_other, crate::proofs::Outcome::lengths_right))]
 pub fn read(text: &[u8], table: &mut [i64], args: &mut [u32]) -> Answer
     ensures { outcome result (after table) (after args) ≡ read_of text.now (before table) (before args) }
 {
