@@ -1,5 +1,5 @@
 -- What the functions beneath the call ask and answer: a layer by its plan, and the recursion by natural numbers. Definitions only.
-use Rattle.std.specs.Prelude.{◌≡◌, Bool, cond, ◌&&◌, ◌||◌, List, ℕ, ◌+◌, ◌*◌, ◌/◌, ◌%◌, ◌^◌, ◌<◌, ◌≤◌, ℤ, pos}
+use Rattle.std.specs.Prelude.{◌≡◌, Bool, cond, ◌&&◌, ◌||◌, List, ℕ, ◌+◌, ◌*◌, ◌^◌, ◌<◌, ◌≤◌, ℤ, pos}
 use Rattle.std.specs.Borrow.{Bor}
 use Rattle.lent.specs.Lent.{Shown}
 use Rattle.faults.specs.Faults.{NONE}
@@ -10,7 +10,6 @@ use Rattle.layers.specs.Inputs.{Inputs, inputs_of, job_fault}
 use Rattle.float_steps.specs.declared.axis.Axis.{Axis}
 use Rattle.places.specs.Bounds.{slack}
 use Rattle.pictures.specs.Shapes.{nat_of, shape_of}
-use Rattle.pictures.specs.Widen.{values_of}
 use Rattle.pictures.specs.declared.Rgba.{Rgba}
 use Rattle.pictures.specs.declared.Words.{Words}
 use Rattle.compose.specs.Compose.{source_pixel}

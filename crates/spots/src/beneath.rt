@@ -49,6 +49,7 @@ fn stops(p: Plan) -> bool
 }
 
 // Where the layer writes the pixel (x, y), on which the source's pixel `index` lies.
+#[tactic(auto, unfolding(crate::specs::Steps::written_needs))]
 fn where_written(p: Plan, source: &[u32], index: Index, x: usize, y: usize) -> Needs
     requires { (Ready p (length source.now))
         × (index ≡ index_by p x y)
@@ -71,6 +72,7 @@ fn where_written(p: Plan, source: &[u32], index: Index, x: usize, y: usize) -> N
 }
 
 // Pixel j of the layer with this plan.
+#[tactic(auto, unfolding(crate::specs::Steps::needs_by))]
 pub fn needs_of(p: Plan, source: &[u32], j: usize) -> Needs
     requires { (Ready p (length source.now)) × (On p j) }
     ensures { result ≡ needs_by p source.now (j % p.dw) (j / p.dw) }

@@ -8,7 +8,7 @@ ghost use Rattle.spots.specs.Spots.{around, colour_of, reads_of, sum_of};
 ghost use Rattle.spots.specs.Steps.{held_inputs, lent_inputs, AskedAt, AskedAround};
 
 use crate::beneath::needs_of;
-use crate::paint::{four, mixed, painted};
+use crate::layer_pixel::{four, mixed, painted};
 use crate::{Needs, Sizes, ZEROS};
 use compose::plans::plan;
 use compose::source::source_of;

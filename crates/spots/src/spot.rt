@@ -52,6 +52,7 @@ fn accepted(
 }
 
 // The colour of the spot (x, y): its whole answer, for every input, is `spot_of`. Nothing is written.
+#[tactic(auto, unfolding(crate::specs::Answers::spot_of))]
 pub fn spot(
     shape: Shape,
     dst: &[u32],
