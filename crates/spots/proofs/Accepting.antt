@@ -1,6 +1,6 @@
 -- A call without a fault: its spot lies on the destination, its pixel can be asked for, and what is asked is answered. Assumes nothing.
 use Rattle.std.proofs.Common.{◌≡◌, ℕ, ◌*◌, ◌^◌, ◌<◌, Bool, true, false, cond, not, ltb, eqb, ℤ, pos, negsuc, refl, arith, true≢false}
-use borrow.Author.Tests.{eqb-true, eqb-false, ltb-true, ltb-false, not-false}
+use borrow.Author.Tests.{eq-eqb, eqb-true, eqb-false, ltb-true, ltb-false, not-false}
 use lib.Signed.{lt_z}
 use Rattle.faults.specs.Faults.{NONE, SPOT}
 use Rattle.layers.specs.declared.Verdict.{Verdict}
@@ -17,7 +17,12 @@ use Rattle.spots.specs.Answers.{most_maps, layer_count, off, bad_spot, spot_faul
 use Rattle.spots.proofs.Asked.{number_fits}
 use Rattle.spots.proofs.Counted.{few_reads}
 
--- ---- no fault
+-- ---- the faults
+
+-- inputs without a fault leave it to the spot
+pub spot_found : (i : Inputs) (x y : ℤ) (bad : Bool) → (job_fault i).number ≡ 0 → bad_spot i x y ≡ bad → verdict (cond bad SPOT NONE) 0 ≡ spot_fault i x y
+unfolding spot_fault
+spot_found i x y bad e b = rw (eq-eqb (job_fault i).number 0 e, b)
 
 neither : (v : Verdict) (bad t : Bool) → eqb v.number 0 ≡ t → (cond t (verdict (fault_if bad SPOT) 0) v).number ≡ 0 → (v.number ≡ 0) × (bad ≡ false)
 neither v true true e h = absurd (omega arith)

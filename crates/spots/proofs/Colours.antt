@@ -104,9 +104,9 @@ module _ (i : Inputs) (k n j : ℕ) (up : k ≡ suc n) where
   painted_colour m own h e s = rw s (h.composes i.samples (λ _. own) j) ∙ ap (λ (x : Layer). composed_at i.samples x dw dh (λ _. own) j) e
 
   -- the pixel is kept
-  pub kept_colour : writes l dw dh j ≡ false → colour_of i n j ≡ colour_of i k j
+  pub kept_colour : {own : Words} → own ≡ colour_of i n j → writes l dw dh j ≡ false → own ≡ colour_of i k j
   unfolding composed_at
-  kept_colour w = sym (above ∙ rw w)
+  kept_colour e w = e ∙ sym (above ∙ rw w)
 
   pub kept_reads : writes l dw dh j ≡ false → reads_of i k j ≡ reads_of i n j
   unfolding needed_of

@@ -68,7 +68,7 @@ fn bad_spot(shape: Shape, table: &[i64], args: &[u32], layers: usize, x: i64, y:
 }
 
 // The first fault of a call.
-#[tactic(auto, unfolding(crate::specs::Answers::spot_fault, crate::specs::Answers::bad_spot))]
+#[tactic(auto, unfolding(crate::specs::Answers::spot_fault))]
 pub fn fault(
     shape: Shape,
     dst: &[u32],

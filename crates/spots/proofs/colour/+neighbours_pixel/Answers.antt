@@ -184,7 +184,7 @@ pixel-painted-requires-in-Own t c =
     let made = rw c.at-l.ensures at c.plan-p.ensures.made in
     let lent = rw c.at-l.ensures at c.source_of-source.ensures.0 in
     let w = is_own i.samples (layer_in i n) (nat_of i.shape.width) (nat_of i.shape.height) c.args.j made lent c.needs_of.ensures c.in-Own.is in
-    let no : c.plan-p.result.map ≡ false = no_map_by (layer_in i n) (nat_of i.shape.width) (nat_of i.shape.height) made (w.2) in
+    let no : c.plan-p.result.map ≡ false = no_map_by (layer_in i n) (nat_of i.shape.width) (nat_of i.shape.height) made w.2 in
     (rw c.source_of-source.ensures.1 c.plan-p.ensures.ready, on_plan i c.at-l.result c.plan-p.result c.args.j r.asked.fit c.plan-p.ensures.made r.inside, no)
 
 pub pixel-neighbours-neighbours-requires : goal.pixel-neighbours-neighbours-requires
@@ -224,7 +224,7 @@ pixel-returns-in-Kept t c =
     let made = rw c.at-l.ensures at c.plan-p.ensures.made in
     let lent = rw c.at-l.ensures at c.source_of-source.ensures.0 in
     let w = is_kept i.samples (layer_in i n) (nat_of i.shape.width) (nat_of i.shape.height) c.args.j made lent c.needs_of.ensures c.in-Kept.is in
-    (c.pixel.ensures.0 ∙ kept_colour i c.args.k n c.args.j up w, omega (arith, c.pixel.ensures.1, kept_reads i c.args.k n c.args.j up w))
+    (kept_colour i c.args.k n c.args.j up c.pixel.ensures.0 w, omega (arith, c.pixel.ensures.1, kept_reads i c.args.k n c.args.j up w))
 
 pub pixel-returns-in-Nothing : goal.pixel-returns-in-Nothing
 unfolding nat_of
