@@ -1,10 +1,11 @@
 -- The numbers of the call are those of its inputs, and its writes are due.
-use Rattle.std.proofs.Common.{refl, ap, ◌∙◌, arith, w64}
+use Rattle.std.proofs.Common.{ℕ, ◌≡◌, ◌-◌, ◌*◌, min, refl, ap, ◌∙◌, eqb, arith, w64}
 use Rattle.std.proofs.Math.Facts.{to_z-of_z}
 use mathlib.Core.Path.{subst⁻¹}
 use Rattle.layers.specs.Inputs.{inputs_of}
 use Rattle.job.specs.Memory.{mem_of, position_of}
-use Rattle.job.specs.Call.{outcome}
+use Rattle.job.specs.Job.{end_of, acceptance}
+use Rattle.job.specs.Call.{outcome, made_of}
 use Rattle.job.specs.Uses.{Batch, Midway}
 use Rattle.job.specs.declared.Extent.{Extent}
 use Rattle.job.proofs.Checked.{end_is, bounded, call_inputs, call_midway, batch_is, call_accepted}
@@ -61,13 +62,15 @@ overflow_mul-left c =
 
 -- ---- the writes, and the answer
 
+-- no more writes than are left are due
 pub writes-requires : goal.writes-requires
 writes-requires c =
     let a = c.args in
     let i = inputs_of a.shape a.dst.now a.count a.table.now a.args.now a.samples.now in
     let m = mem_of a.work0.now a.work1.now a.checkpoint.now in
     let layers = rw (to_z-of_z {w = w64} c.ranges.count) at c.natural-layers.ensures in
-    let due = rw (end_is i c.width_of-w.ensures c.height_of-h.ensures layers) at c.min.ensures in
+    let end = end_is i c.width_of-w.ensures c.height_of-h.ensures layers in
+    let due : c.min.result ≡ made_of i c.min.result m = omega (arith, c.min.ensures, end) in
     let extent : Extent = record {
       width = c.width_of-w.result;
       height = c.height_of-h.result;
@@ -76,8 +79,8 @@ writes-requires c =
       start = position_of m;
       due = c.min.result;
     } in
-    let same = batch_is i a.allowance m (call_inputs i m c.requires) extent c.width_of-w.ensures c.height_of-h.ensures c.channels_of.ensures layers refl due in
-    (refl, subst⁻¹ (λ (b : Batch). Midway b 0 m) same (call_midway i m c.requires a.allowance))
+    let same = batch_is i c.min.result m (call_inputs i m c.requires) extent c.width_of-w.ensures c.height_of-h.ensures c.channels_of.ensures layers refl due in
+    (refl, subst⁻¹ (λ (b : Batch). Midway b 0 m) same (call_midway i m c.requires c.min.result))
 
 pub bounds-checkpoint-0-2 : goal.bounds-checkpoint-0-2
 bounds-checkpoint-0-2 c =
@@ -95,7 +98,7 @@ returns c =
     let left = mem_of c.writes.new.work0 c.writes.new.work1 c.writes.new.checkpoint in
     let layers = rw (to_z-of_z {w = w64} c.ranges.count) at c.natural-layers.ensures in
     let end = end_is i c.width_of-w.ensures c.height_of-h.ensures layers in
-    let due = rw end at c.min.ensures in
+    let due : c.min.result ≡ made_of i a.allowance m = c.min.ensures ∙ ap (λ (n : ℕ). min a.allowance (5 * (n - position_of m))) end in
     let extent : Extent = record {
       width = c.width_of-w.result;
       height = c.height_of-h.result;
@@ -105,4 +108,7 @@ returns c =
       due = c.min.result;
     } in
     let same = batch_is i a.allowance m (call_inputs i m c.requires) extent c.width_of-w.ensures c.height_of-h.ensures c.channels_of.ensures layers refl due in
-    ap (outcome left) (rw end at c.acceptance.ensures) ∙ call_accepted i a.allowance m same c.writes.ensures
+    let answered : c.acceptance.result ≡ acceptance c.writes.new.uses (eqb (position_of left) (end_of i))
+    = c.acceptance.ensures ∙ ap (λ (n : ℕ). acceptance c.writes.new.uses (eqb (position_of left) n)) end
+    in
+    ap (outcome left) answered ∙ call_accepted i a.allowance m same c.writes.ensures
