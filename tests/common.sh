@@ -5,9 +5,12 @@ source "$(dirname "${BASH_SOURCE[0]}")/../tools/folders.sh"
 cd "$(dirname "${BASH_SOURCE[0]}")/.."
 mkdir -p target/tests
 
-# `rt ci` refuses a link anywhere beneath the repository, so that a test leaves none.
-tests_leave=("$PWD/target/tests" "$PWD/host/target/tmp")
-trap 'find "${tests_leave[@]}" -type l -delete 2> /dev/null || true' EXIT
+# `rt ci` refuses a link anywhere beneath the repository, so that a test leaves none. One that another test starts leaves that to the other.
+if [ -z "${OUTER_TEST:-}" ]; then
+    export OUTER_TEST=$0
+    tests_leave=("$PWD/target/tests" "$PWD/host/target/tmp")
+    trap 'find "${tests_leave[@]}" -type l -delete 2> /dev/null || true' EXIT
+fi
 
 skip() {
     echo "skipped: $*"
