@@ -1,6 +1,7 @@
 // What a host calls: the names, the cards, the single composition, narrowing and the job. Each function hands its arguments on and has the contract of what
 // it calls. A picture is lent as its words, the binary32 patterns, so that a host passes its float buffer as it is. The crate tray_c exports them to C.
 #![tactic(auto)]
+
 ghost use Rattle.std.specs.Prelude.{◌≡◌, cond, pos};
 ghost use Rattle.lent.specs.Lent.{before, after};
 ghost use Rattle.names.specs.Names.{from_name};
