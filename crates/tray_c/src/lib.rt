@@ -1,6 +1,7 @@
 // What a host links, for C and Rust: each function of the crate tray under its own name, with the same clauses. `rt lib` in this folder makes the archive;
 // tools/library puts it where hosts look for it.
 #![tactic(auto)]
+
 ghost use Rattle.std.specs.Prelude.{◌≡◌, pos};
 ghost use Rattle.lent.specs.Lent.{before, after};
 ghost use Rattle.names.specs.Names.{from_name};
@@ -99,5 +100,8 @@ pub extern "C" fn tray_job(
     ensures { host_outcome (left work0 work1 checkpoint) result (after layer) (after stores) (after finished)
         ≡ job_outcome (call_of (inputs (shape_of width height channels) dst layers table args samples) job allowance (found work0 work1 checkpoint)) }
 {
-    tray::tray_job(width, height, channels, dst, layers, table, args, samples, job, allowance, work0, work1, checkpoint, layer, stores, finished)
+    tray::tray_job(
+        width, height, channels, dst, layers, table, args, samples, job, allowance, work0, work1,
+        checkpoint, layer, stores, finished,
+    )
 }
