@@ -1,6 +1,7 @@
 // Replays the fixed vectors on standard input against the library and writes, for each kind of line, how many are answered right and how many wrong,
 // and where the first wrong one stands. The vectors are written by oracle/, whose README has the form of a line.
 #![tactic(auto)]
+
 mod replay;
 
 use replay::judge;

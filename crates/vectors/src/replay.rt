@@ -40,6 +40,7 @@ fn replayed(
 }
 
 // Replays every line and keeps where its answer ends.
+#[tactic(auto, using(verdicts::proofs::Splitting::none_replayed, verdicts::proofs::Splitting::all_replayed))]
 fn replay(text: &[u8], places: &mut [usize])
     ensures { after places ≡ places_from replayed_at 0 (lines_of text.now) nothing_kept (before places) }
 {
@@ -76,6 +77,7 @@ fn replay(text: &[u8], places: &mut [usize])
 
 // Replays the lines of a text and counts those that are right and those that are wrong, by their kinds' letters; the number of the first that is wrong, 0
 // where none is.
+#[tactic(auto, using(verdicts::proofs::Splitting::judged))]
 pub fn judge(
     text: &[u8],
     places: &mut [usize],
