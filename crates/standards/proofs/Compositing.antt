@@ -1,7 +1,7 @@
 -- The operators that W3C defines, in theorems over the eleven modes. s is the source's pixel, d the destination's, and c any of the three colours. Assumes
 -- nothing.   mode-is        a colour, but for a zero's sign, and the alpha are W3C's formula with the mode's steps exchanged (`steps`,
 -- specs/BlendSteps.antt) and nothing                  else, for all values, NaN and the infinities included   mode-with      a colour with W3C's B as
--- printed, outside the inputs at which the blend functions differ   mode-in-range  the same on numbers from 0 to 1, but for ColorBurn of black on white
+-- printed, outside the inputs at which the blend functions differ   mode_in_range  the same on numbers from 0 to 1, but for ColorBurn of black on white
 -- mode-empty     the colour of a mode that divides is 0 where its alpha is not above 0
 use mathlib.Core.Path.{◌≡◌, refl, sym, ap, ◌∙◌}
 use mathlib.Core.Logic.{inl}
