@@ -5,6 +5,7 @@ pub mod Patterns
 pub mod WholeRoot
 pub mod NearestRoot
 pub mod AxisInside
+pub mod ByMantissas
 mod Finite
 mod OwnRemainder
 mod Radicand

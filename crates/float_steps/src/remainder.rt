@@ -1,11 +1,84 @@
 // Remainders.
-ghost use Rattle.std.specs.Prelude.{◌≡◌};
+ghost use Rattle.std.specs.Prelude.{◌≡◌, ◌+◌, ◌-◌, ◌*◌, ◌/◌, ◌%◌, ◌^◌, ◌<◌, ◌≤◌};
 ghost use Rattle.std.specs.Float.Ieee as Ieee;
 ghost use Rattle.std.specs.Float.{binary32};
 ghost use Rattle.float_steps.specs.Remainder.{rem_euclid_of, wrap_of};
+ghost use Rattle.float_steps.specs.Words.{value_of};
 
-// `v % m`, which has v's sign. A v between -m and m is its own remainder: the test spares the call of
-// fmodf that `%` is compiled to, where m is a constant.
+use crate::words::{value, word};
+
+// A finite value with the word w, its sign aside, is mantissa * 2 ^ shift of the format's smallest
+// values, where the mantissa is w - shift * 0x80_0000.
+fn shift(w: u32) -> u32
+    ensures { result ≡ w / 0x80_0000 - 1 }
+{
+    let exponent = w / 0x80_0000;
+    if exponent == 0 { 0 } else { exponent - 1 }
+}
+
+// The word of 2 ^ s of the smallest values.
+fn power(s: u32) -> u32
+    requires { s < 254 }
+    ensures { (result < 0x7f80_0000) × ((result - (result / 0x80_0000 - 1) * 0x80_0000) * 2 ^ (result / 0x80_0000 - 1) ≡ 2 ^ s) }
+{
+    if s < 23 { 1 << s } else { (s - 22) * 0x80_0000 }
+}
+
+// The remainder of a * 2 ^ k by b, 32 places at a time.
+fn reduced(a: u32, b: u32, k: u32) -> u32
+    requires { (a < 0x100_0000) × (0 < b) × (b < 0x100_0000) }
+    ensures { result ≡ a * 2 ^ k % b }
+{
+    let mut r = a as u64;
+    let mut left = k;
+    while left >= 32 {
+        r = r * 0x1_0000_0000 % (b as u64);
+        left = left - 32;
+    }
+    ((r << left) % (b as u64)) as u32
+}
+
+// The remainder of two finite values by their words. In units of the divisor's exponent it is a
+// whole number below the divisor's mantissa, so the product at the end is exact.
+fn rem_finite(a: u32, b: u32) -> f32
+    requires { (a % 0x8000_0000 < 0x7f80_0000) × (b % 0x8000_0000 < 0x7f80_0000) × (0 < b % 0x8000_0000) }
+    ensures { result ≡ Ieee.rem binary32 (value_of a) (value_of b) }
+{
+    let x = a % 0x8000_0000;
+    let y = b % 0x8000_0000;
+    let s = shift(x);
+    let t = shift(y);
+    if s < t {
+        return value(a);
+    }
+    let r = reduced(x - s * 0x80_0000, y - t * 0x80_0000, s - t);
+    (r as f32) * value(power(t) + (a - x))
+}
+
+// The remainder of two values by their words.
+fn rem_words(a: u32, b: u32) -> f32
+    ensures { result ≡ Ieee.rem binary32 (value_of a) (value_of b) }
+{
+    let y = b % 0x8000_0000;
+    if a % 0x8000_0000 >= 0x7f80_0000 {
+        return 0.0 / 0.0;
+    }
+    if y == 0 {
+        return 0.0 / 0.0;
+    }
+    if y < 0x7f80_0000 {
+        return rem_finite(a, b);
+    }
+    if y == 0x7f80_0000 {
+        value(a)
+    } else {
+        0.0 / 0.0
+    }
+}
+
+// The remainder of v by m that Rust writes `v % m`: it has v's sign. A v between -m and m is its own
+// remainder, which is the common case where m is a constant. No `%` stands here, since on floats it is
+// compiled to a call of C's fmodf; the remainder is exact, and whole numbers give it without a library.
 pub fn rem(v: f32, m: f32) -> f32
     ensures { result ≡ Ieee.rem binary32 v m }
 {
@@ -14,7 +87,7 @@ pub fn rem(v: f32, m: f32) -> f32
             return v;
         }
     }
-    v % m
+    rem_words(word(v), word(m))
 }
 
 // `v.rem_euclid(m)`, for an m above zero.
