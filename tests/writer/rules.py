@@ -3,8 +3,8 @@
 Which table a change of the job's code has to touch:
 ITEMS: a file, a module, a function, a type or a constant. CALLS: a call, a `while` or a `match`. BODIES: anything in `store` or in `accepted`.
 LISTS, INPUTS, TYPES, NUMBERS: what the functions hand on to each other. GIVEN: an argument with another name than its parameter.
-READS, READS_LAST: a new way to read a list, an input, the extent or the count. LENT: how a crate beneath the job lends a list. text.DERIVES: what a type
-derives. Other changes touch none."""
+READS, READS_LAST: a new way to read a list, an input, the extent or the count. STATEMENTS: one that has these in another form. LENT: how a crate beneath the
+job lends a list. text.DERIVES: what a type derives. text.MEMORY: the type that holds the lists. Other changes touch none."""
 import os
 import re
 
@@ -12,63 +12,84 @@ import text
 
 # The items of each file but for its imports.
 ITEMS = {
-    "crates/job/src/lib.rt": "pub mod call; mod writes; mod fill; mod pixel; mod store; enum Write; struct Extent; struct Part; pub struct Answer",
-    "crates/job/src/call.rt": "fn memory_fault; fn fault; fn acceptance; fn accepted; pub fn run",
+    "crates/job/src/lib.rt": "pub mod call; mod size; mod writes; mod fill; mod pixel; mod store; "
+    "pub struct Memory; enum Write; struct Extent; struct Part; pub struct Progress",
+    "crates/job/src/call.rt": "fn memory_fault; fn fault; fn accepted; pub fn run",
+    "crates/job/src/size.rt": "pub fn pixel_count; pub fn end_of",
     "crates/job/src/writes.rt": "const WRITES; pub fn writes",
     "crates/job/src/fill.rt": "pub fn fill",
     "crates/job/src/pixel.rt": "fn write_of; fn pixel; pub fn write_out",
     "crates/job/src/store.rt": "pub fn store",
-    "crates/tray/src/lib.rt": "fn flag; pub fn tray_from_name; pub fn tray_read_card; pub fn tray_compose; pub fn tray_narrow; "
+    "crates/tray/src/lib.rt": "pub fn tray_from_name; pub fn tray_read_card; pub fn tray_compose; pub fn tray_narrow; "
     "pub fn tray_narrow_bytes; pub fn tray_job",
     "crates/tray_c/src/lib.rt": "extern fn tray_from_name; extern fn tray_read_card; extern fn tray_compose; extern fn tray_narrow; "
     "extern fn tray_narrow_bytes; extern fn tray_job",
 }
-# What each function of the job and of tray calls, with each `while` and `match`, in the order of the text. A function that is not here has none.
+# What each function of the job and of tray calls, with each `while`, each `match` and what is of NOWHERE, in the order of the text. A function that is not
+# here has none. A pattern `Ok(x)` stands here as a call would.
 CALLS = {
-    "tray_job": "job::call::run flag",
-    "run": "fault accepted",
-    "accepted": "width_of height_of natural channels_of min writes acceptance",
-    "writes": "while min min fill write_out",
-    "write_out": "while pixel pixel",
-    "pixel": "while write_of store",
+    "tray_job": "match job::call::run Ok u64::from Err .number",
+    "run": "fault Ok accepted",
+    "accepted": "end_of .min writes",
+    "writes": "pixel_count while .min .min fill write_out",
+    "write_out": "for .. pixel pixel",
+    "pixel": "for .. write_of store",
     "store": "match",
-    "fault": "check width_of height_of natural memory_fault",
-    "memory_fault": ".len .len .len",
-    "fill": "widen Layer::at plan source_of span span",
-    "tray_from_name": "match names::from_name Named::Operator",
-    "tray_read_card": "cards::read",
-    "tray_compose": "compose::single::compose",
-    "tray_narrow": "narrowing::narrow",
-    "tray_narrow_bytes": "narrowing::narrow_bytes",
+    "fault": "check pixel_count end_of memory_fault Ok",
+    "memory_fault": ".when .len || .len .when .len || .when",
+    "end_of": "natural pixel_count",
+    "pixel_count": "width_of height_of",
+    "fill": ".div_ceil widen channels_of Layer::at plan width_of height_of source_of span",
+    "tray_from_name": "match names::from_name Some .number",
+    "tray_read_card": "match cards::read Ok Err .number",
+    "tray_compose": "faults::number compose::single::compose",
+    "tray_narrow": "faults::number narrowing::narrow",
+    "tray_narrow_bytes": "faults::number narrowing::narrow_bytes",
 }
-# What no body has: items, other loops, closures, macros, parts of lists.
+# What no body has but where CALLS says so: items, other loops, closures, macros, parts of lists.
 NOWHERE = "fn use mod const static type impl trait unsafe loop for move ref ghost requires ensures extern crate super self Self # | || && ! .. ..=".split()
 # The whole body of the function that writes, and of the one that makes the extent and begins the count.
 BODIES = {
     "store": """
         match write {
-            Write::Work0 { at, word } => { work0[at] = word; *uses += 1; }
-            Write::Work1 { at, word } => { work1[at] = word; *uses += 1; }
-            Write::Checkpoint { position } => { checkpoint[0] = position; *uses += 1; }
-        }""",
+            Write::Work0 { at, word } => memory.work0[at] = word,
+            Write::Work1 { at, word } => memory.work1[at] = word,
+            Write::Checkpoint { position } => memory.checkpoint[0] = position,
+        }
+        *uses += 1;""",
     "accepted": """
-        let w = width_of(shape); let h = height_of(shape); let layers = natural(count);
-        let end = (layers + 1) * (w * h); let start = checkpoint[0] as usize; let left = 5 * (end - start);
-        let extent = Extent { width: w, height: h, channels: channels_of(shape), layers, start, due: min(allowance as usize, left), };
-        let mut uses = 0u64;
-        writes(extent, dst, table, args, samples, work0, work1, checkpoint, &mut uses,);
-        acceptance(uses, checkpoint[0], end as u64)""",
+        let end = end_of(inputs); let start = memory.checkpoint[0] as usize; let left = 5 * (end - start);
+        let due = (allowance as usize).min(left); let mut uses = 0u64;
+        let extent = Extent { inputs, start, due };
+        writes(extent, memory, &mut uses);
+        Progress { stores: uses, finished: memory.checkpoint[0] == end as u64, }""",
 }
 # What has the same name in every function; and the same type, but for the numbers of a call.
-LISTS = {"work0": "[ u32 ]", "work1": "[ u32 ]", "checkpoint": "[ u64 ]"}
-INPUTS = {"dst": "& [ u32 ]", "table": "& [ i64 ]", "args": "& [ u32 ]", "samples": "& [ u32 ]"}
-TYPES = INPUTS | {"extent": "Extent", "uses": "& mut u64", "out": "& mut [ u32 ]"}
-NUMBERS = ("shape", "count", "job", "allowance")
+LISTS = {"work0": "[ u32 ]", "work1": "[ u32 ]", "checkpoint": "[ u64 ]", "memory": "Memory < '_ >"}
+INPUTS = {"dst": "& [ u32 ]", "table": "& [ i64 ]", "args": "& [ u32 ]", "samples": "& [ u32 ]", "inputs": "JobInputs < '_ >"}
+TYPES = INPUTS | {"extent": "Extent < '_ >", "uses": "& mut u64", "out": "& mut [ u32 ]"}
+NUMBERS = ("job", "allowance")
 # The arguments that have not their parameter's name, by function and parameter.
-GIVEN = {"run count": "layers", "writes uses": "& mut uses", "acceptance stores": "uses", "fill out": "& mut buf"}
-# How a body reads a list, the extent and the count. The functions of other crates that write do so into the last argument; READS_LAST reads it.
-READS = re.compile(r"(?:work0|work1|checkpoint) (?:\[|\. len \( \)) |extent \. |(?<=\* )uses ")
+GIVEN = {
+    "run memory": ("& mut memory",),
+    "writes uses": ("& mut uses",),
+    "fill out": ("& mut buf",),
+    "pixel_count inputs": ("inputs", "extent . inputs"),
+}
+# How a body reads a list of the memory, an input, the extent and the count. The functions of other crates that write do so into the last argument; READS_LAST reads it.
+LIST = r"(?:work0|work1|checkpoint) (?:\[|\. len \( \)) "
+READS = re.compile(rf"memory \. (?={LIST})|(?<=memory \. ){LIST}|extent \. |inputs \. |(?<=extent \. )inputs |(?<=inputs \. )\w+ |(?<=\* )uses ")
 READS_LAST = "check"
+# Statements that have them in another form, each whole: where the inputs of a call come together; where its lists do, and are handed on; and where what is
+# read of them is chosen.
+STATEMENTS = {
+    "tray_job": [
+        "let inputs = JobInputs { shape , dst , count : layers , table , args , samples , } ; ",
+        "let mut memory = job :: Memory { work0 , work1 , checkpoint , } ; "
+        "match job :: call :: run ( inputs , job , allowance , & mut memory ) { ",
+    ],
+    "fill": ["let inputs = extent . inputs ; ", "let beneath = if ( part . k - 1 ) % 2 == 0 { & * memory . work0 } else { & * memory . work1 } ; "],
+}
 # What is lent to be changed beneath the job: `out`, in the last place but for `put`, and a list of the function's own.
 LENT = ("out : & mut [ u32 ] )", "out : & mut [ u32 ] , )", "fn put ( out : & mut [ u32 ]", "& mut own", "& mut out [ at .. ]", "let mut")
 
@@ -120,7 +141,8 @@ def hands_on(function, own):
         if len(own.get(callee, call.arguments)) != len(call.arguments):
             yield call.start, f"calls `{callee}` with {len(call.arguments)} arguments"
         for name, (argument, start) in zip(own.get(callee, []), call.arguments):
-            if argument != GIVEN.get(f"{callee} {name}", name) and {name, argument} & {*LISTS, *TYPES, *NUMBERS}:
+            known = {name, argument, argument.split(" . ")[-1]} & {*LISTS, *TYPES, *NUMBERS}
+            if known and argument not in GIVEN.get(f"{callee} {name}", (name,)):
                 yield start, f"hands on `{text.show(argument)}` as `{name}` of `{callee}`"
 
 
@@ -147,15 +169,17 @@ def assigns(function, own):
 
 
 def has(function, own):
-    """A list, an input, the extent and the count are handed on or read, and nothing else. Another crate is handed an input, or a list that was lent to be
-    read, and not in the last place. What a body itself lends to be changed it has bound."""
+    """A list, an input, the extent and the count are handed on or read, and nothing else. Another crate is handed an input, and not in the last place. What a
+    body itself lends to be changed it has bound."""
     known = {match.start() for match in READS.finditer(function.body)}
-    readable = [*INPUTS] if leads_to_store(function.name) else [*INPUTS, *LISTS]
     for call in text.calls(function):
         inside = call.callee.split("::")[-1] in own
         arguments = call.arguments if inside or call.callee == READS_LAST else call.arguments[:-1]
-        known.update(start for argument, start in arguments if argument in ([*LISTS, *TYPES] if inside else readable))
-    for match in tokens(*LISTS, *INPUTS, "extent", "uses", "Extent").finditer(function.body):
+        known.update(start for argument, start in arguments if argument in ([*LISTS, *TYPES] if inside else INPUTS))
+    for statement in STATEMENTS.get(function.name, []):
+        whole = re.search(r"(?<!\S)" + re.escape(statement), function.body)
+        known.update(range(*whole.span()) if whole else [])
+    for match in tokens(*LISTS, *INPUTS, "extent", "uses", "Extent", "JobInputs", "Memory").finditer(function.body):
         if match.start() not in known:
             yield match.start(), f"has `{match[0]}` in another form: `{around(function.body, match.start())}`"
     for match in re.finditer(r"(?<!\S)(?<!let )mut (\w*)", function.body):
@@ -186,7 +210,7 @@ def items(source, found):
 
 def beneath(source):
     """A crate beneath the job is lent nothing to change but `out`."""
-    left = tokens(*LENT, text.DERIVES.strip()).sub(lambda match: " " * len(match[0]), source.text)
+    left = tokens(*LENT, *(each.strip() for each in text.DERIVES)).sub(lambda match: " " * len(match[0]), source.text)
     for match in tokens("mut", "unsafe", "static", "extern", "#").finditer(left):
         yield f"{source.at(match.start())}: beneath the job: `{around(source.text, match.start())}`"
 

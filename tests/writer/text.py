@@ -4,23 +4,28 @@ import bisect
 import re
 from collections import namedtuple
 
-# No text may be a comment here and code to the compiler. Strings, block comments and lifetimes are not read, for the sources have none. What the proof checker
-# reads, a contract and an import for contracts, is read in one form alone, and without what would move its end: to it `//` is a name, `--` begins a comment. A
-# clause has no braces inside, so that its first `}` ends it. What an attribute `tactic` says, the proof checker reads too; it is passed over, in one form alone.
+# No text may be a comment here and code to the compiler. Strings and block comments are not read, for the sources have none, nor is a quote but before the name
+# of a lifetime. What the proof checker reads, a contract, an import for contracts and what an impl says for contracts, is read in one form alone, and without
+# what would move its end: to it `//` is a name, `--` begins a comment. A clause has no braces inside, so that its first `}` ends it; what an impl says may have
+# one pair. What an attribute `tactic` says, the proof checker reads too; it is passed over, in one form alone.
 TOKEN = re.compile(
     r"(?P<gap>//[^\n]*|[ \n]+|#!?\[tactic\([\w:(), \n]*\)\])"
-    r"|(?P<ghost>ghost use [^\s;{}]+(?:\{[^;{}\n]*\}| as \w+);|(?:requires|ensures)(?: \w+)? \{\s[^{}]*\s\})"
-    r"|(?P<token>(?!(?:ghost|requires|ensures)\b)\w+|\"C\"|<<=|>>=|\.\.=|[-+*/%&|^=!<>]=|=>|->|::|\.\.|&&|\|\||<<|>>|/(?!\*)|[-+*%&|^!<>=.,:;(){}\[\]#])",
+    r"|(?P<ghost>ghost use [^\s;{}]+(?:\{[^;{}\n]*\}| as \w+);|ghost \w+ = \{\s[^{};]*(?:\{[^{}]*\}[^{};]*)?\s\};"
+    r"|(?:requires|ensures)(?: \w+)? \{\s[^{}]*\s\})"
+    r"|(?P<token>(?!(?:ghost|requires|ensures)\b)\w+|\"C\"|'[a-z_]\b(?!')|<<=|>>=|\.\.=|[-+*/%&|^=!<>]=|=>|->|::|\.\.|&&|\|\||<<|>>|/(?!\*)|[-+*%&|^!<>=.,:;?(){}\[\]#])",
     re.A,
 )
-DERIVES = "# [ derive ( Clone , Copy ) ] "
+DERIVES = tuple(f"# [ derive ( {names} ) ] " for names in ("Clone , Copy", "Clone , Copy , Debug , PartialEq , Eq", "Drop"))
+# The one type that holds what is lent to be changed, whole.
+MEMORY = "pub struct Memory < 'a > { pub work0 : & 'a mut [ u32 ] , pub work1 : & 'a mut [ u32 ] , pub checkpoint : & 'a mut [ u64 ] , } "
 MOVES_THE_END = re.compile(r"//|--|[\"«⟦]")
 # An item, up to the brace that opens its block; of an import what it names, where braces are; of a function what stands before it, its name and its parameters.
-# No result is a reference. A type may be copied.
+# No result is a reference. A type may be copied, compared, printed and let go.
 ITEM = re.compile(
     r"ghost |use (?:\w+ :: )+(?:\w+|\{ (?P<several>(?![^}]*\bself\b)\w+(?: , \w+)+) (?:, )?\}) ; |(?:pub )?mod \w+ ; |const \w+ : usize = (?:\w+ \* )?\w+ ; "
-    rf"|(?:{re.escape(DERIVES)})?(?P<type>(?:pub )?(?:enum|struct) \w+ )(?=\{{)"
-    r"|(?P<before># \[ unsafe \( no_mangle \) \] pub extern \"C\" |pub |)fn (?P<name>\w+) \( (?P<parameters>[^()]*)\) (?:-> \w+ )?(?:requires )*(?:ensures )*(?=\{)"
+    rf"|(?:{'|'.join(map(re.escape, DERIVES))})?(?P<type>(?:pub )?(?:enum|struct) \w+ )(?:< 'a > )?(?=\{{)"
+    r"|(?P<before># \[ unsafe \( no_mangle \) \] pub extern \"C\" |pub |)fn (?P<name>\w+) \( (?P<parameters>[^()]*)\) "
+    r"(?:-> (?:\w+|Result < (?:\w+|\( \)) , \w+ >) )?(?:requires )*(?:ensures )*(?=\{)"
 )
 CALL = re.compile(r"(?<!\S)(?!(?:if|while|return|match) \()((?:\. )?\w+(?: :: \w+)*) \( ")
 
@@ -98,7 +103,8 @@ def items(source):
             found += [(path + name, start) for name in head["several"].split(" , ")]
         elif head[0] != "ghost ":
             found.append((show(head["type"] or head[0]).rstrip(" ;").partition(": ")[0], start))
-            if not re.fullmatch(r"[\w :,{}]*", body):
+            plain = re.fullmatch(r"(?:[\w :,{}]|< 'a > )*", body) and head["type"] != "pub struct Memory "
+            if not plain and not source.text.startswith(MEMORY, head.start("type")):
                 raise Unread(f"{source.at(start)}: a type that is not known: {show(body)}")
     return found, functions
 

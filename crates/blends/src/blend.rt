@@ -17,10 +17,11 @@ pub fn hard_light(s: f32, d: f32) -> f32
     ensures { result ≡ hard_light_of s d }
 {
     if s < 0.5 {
-        return 2.0 * s * d;
+        2.0 * s * d
+    } else {
+        let s2 = 2.0 * s - 1.0;
+        s2 + d - s2 * d
     }
-    let s2 = 2.0 * s - 1.0;
-    s2 + d - s2 * d
 }
 
 // The curve of soft_light above a half.
@@ -29,9 +30,10 @@ fn curve(d: f32) -> f32
     ensures { result ≡ curve_of d }
 {
     if d <= 0.25 {
-        return ((16.0 * d - 12.0) * d + 4.0) * d;
+        ((16.0 * d - 12.0) * d + 4.0) * d
+    } else {
+        root::sqrt(d)
     }
-    root::sqrt(d)
 }
 
 #[tactic(auto, unfolding(crate::specs::Blends::soft_light_of))]
@@ -39,9 +41,10 @@ pub fn soft_light(s: f32, d: f32) -> f32
     ensures { result ≡ soft_light_of s d }
 {
     if s <= 0.5 {
-        return d - (1.0 - 2.0 * s) * d * (1.0 - d);
+        d - (1.0 - 2.0 * s) * d * (1.0 - d)
+    } else {
+        d + (2.0 * s - 1.0) * (curve(d) - d)
     }
-    d + (2.0 * s - 1.0) * (curve(d) - d)
 }
 
 #[tactic(auto, unfolding(crate::specs::Blends::color_dodge_of))]
@@ -49,12 +52,12 @@ pub fn color_dodge(s: f32, d: f32) -> f32
     ensures { result ≡ color_dodge_of s d }
 {
     if d <= 0.0 {
-        return 0.0;
+        0.0
+    } else if s >= 1.0 {
+        1.0
+    } else {
+        order::smaller(d / (1.0 - s), 1.0)
     }
-    if s >= 1.0 {
-        return 1.0;
-    }
-    order::smaller(d / (1.0 - s), 1.0)
 }
 
 // Black is tested before white: a black source burns to black even over white.
@@ -63,12 +66,12 @@ pub fn color_burn(s: f32, d: f32) -> f32
     ensures { result ≡ color_burn_of s d }
 {
     if s <= 0.0 {
-        return 0.0; // black, over white too
+        0.0 // black, over white too
+    } else if 1.0 <= d {
+        1.0 // white
+    } else {
+        1.0 - order::smaller((1.0 - d) / s, 1.0)
     }
-    if 1.0 <= d {
-        return 1.0; // white
-    }
-    1.0 - order::smaller((1.0 - d) / s, 1.0)
 }
 
 #[tactic(auto, unfolding(crate::specs::Blends::divide_of))]
@@ -76,12 +79,10 @@ pub fn divide(num: f32, den: f32) -> f32
     ensures { result ≡ divide_of num den }
 {
     if den <= 0.0 {
-        if num <= 0.0 {
-            return 0.0;
-        }
-        return 1.0;
+        if num <= 0.0 { 0.0 } else { 1.0 }
+    } else {
+        num / den
     }
-    num / den
 }
 
 #[tactic(auto, unfolding(crate::specs::Blends::vivid_light_of))]
@@ -89,9 +90,10 @@ pub fn vivid_light(s: f32, d: f32) -> f32
     ensures { result ≡ vivid_light_of s d }
 {
     if s < 0.5 {
-        return color_burn(2.0 * s, d);
+        color_burn(2.0 * s, d)
+    } else {
+        color_dodge(2.0 * s - 1.0, d)
     }
-    color_dodge(2.0 * s - 1.0, d)
 }
 
 #[tactic(auto, unfolding(crate::specs::Blends::pin_light_of))]
@@ -99,9 +101,10 @@ pub fn pin_light(s: f32, d: f32) -> f32
     ensures { result ≡ pin_light_of s d }
 {
     if s < 0.5 {
-        return order::smaller(d, 2.0 * s);
+        order::smaller(d, 2.0 * s)
+    } else {
+        order::larger(d, 2.0 * s - 1.0)
     }
-    order::larger(d, 2.0 * s - 1.0)
 }
 
 #[tactic(auto, unfolding(crate::specs::Blends::hard_mix_of))]
@@ -109,9 +112,10 @@ pub fn hard_mix(s: f32, d: f32) -> f32
     ensures { result ≡ hard_mix_of s d }
 {
     if order::unit(vivid_light(s, d)) < 0.5 {
-        return 0.0;
+        0.0
+    } else {
+        1.0
     }
-    1.0
 }
 
 #[tactic(auto, unfolding(crate::specs::Blends::freeze_of))]
@@ -119,17 +123,15 @@ pub fn freeze(s: f32, d: f32) -> f32
     ensures { result ≡ freeze_of s d }
 {
     if d <= 0.0 {
-        return 0.0;
+        0.0
+    } else {
+        1.0 - (1.0 - s) * (1.0 - s) / d
     }
-    1.0 - (1.0 - s) * (1.0 - s) / d
 }
 
 #[tactic(auto, unfolding(crate::specs::Blends::reflect_of))]
 pub fn reflect(s: f32, d: f32) -> f32
     ensures { result ≡ reflect_of s d }
 {
-    if d >= 1.0 {
-        return 1.0;
-    }
-    s * s / (1.0 - d)
+    if d >= 1.0 { 1.0 } else { s * s / (1.0 - d) }
 }

@@ -10,45 +10,49 @@ fn saturation(max: f32, min: f32, l: f32, d: f32) -> f32
     ensures { result ≡ saturation_of max min l d }
 {
     if l > 0.5 {
-        return d / (2.0 - max - min);
+        d / (2.0 - max - min)
+    } else {
+        d / (max + min)
     }
-    d / (max + min)
 }
 
 #[tactic(auto, unfolding(crate::specs::Hsl::hue_of))]
-fn hue(r: f32, g: f32, b: f32, max: f32, d: f32) -> f32
-    ensures { result ≡ hue_of r g b max d }
+fn hue(c: Rgb, max: f32, d: f32) -> f32
+    ensures { result ≡ hue_of c.r c.g c.b max d }
 {
-    if max == r {
-        return remainder::rem_euclid((g - b) / d, 6.0);
+    if max == c.r {
+        remainder::rem_euclid((c.g - c.b) / d, 6.0)
+    } else if max == c.g {
+        (c.b - c.r) / d + 2.0
+    } else {
+        (c.r - c.g) / d + 4.0
     }
-    if max == g {
-        return (b - r) / d + 2.0;
-    }
-    (r - g) / d + 4.0
 }
 
 // Of a colour whose largest and smallest channels are max and min.
 #[tactic(auto, unfolding(crate::specs::Hsl::hsl_by))]
-fn hsl_by(r: f32, g: f32, b: f32, max: f32, min: f32) -> Hsl
-    ensures { result ≡ hsl_by r g b max min }
+fn hsl_by(c: Rgb, max: f32, min: f32) -> Hsl
+    ensures { result ≡ hsl_by c.r c.g c.b max min }
 {
     let l = (max + min) * 0.5;
     let d = max - min;
     if d <= 0.000001 {
-        return Hsl { h: 0.0, s: 0.0, l };
+        Hsl { h: 0.0, s: 0.0, l }
+    } else {
+        Hsl {
+            h: hue(c, max, d) / 6.0,
+            s: saturation(max, min, l, d),
+            l,
+        }
     }
-    let h = hue(r, g, b, max, d) / 6.0;
-    let s = saturation(max, min, l, d);
-    Hsl { h, s, l }
 }
 
-pub fn rgb_to_hsl(r: f32, g: f32, b: f32) -> Hsl
-    ensures { result ≡ rgb_to_hsl_of r g b }
+pub fn rgb_to_hsl(c: Rgb) -> Hsl
+    ensures { result ≡ rgb_to_hsl_of c.r c.g c.b }
 {
-    let max = order::larger(order::larger(r, g), b);
-    let min = order::smaller(order::smaller(r, g), b);
-    hsl_by(r, g, b, max, min)
+    let max = order::larger(order::larger(c.r, c.g), c.b);
+    let min = order::smaller(order::smaller(c.r, c.g), c.b);
+    hsl_by(c, max, min)
 }
 
 #[tactic(auto, unfolding(crate::specs::Hsl::upper_of))]
@@ -56,9 +60,10 @@ fn upper(s: f32, l: f32) -> f32
     ensures { result ≡ upper_of s l }
 {
     if l < 0.5 {
-        return l * (1.0 + s);
+        l * (1.0 + s)
+    } else {
+        l + s - l * s
     }
-    l + s - l * s
 }
 
 // A channel at t, from 0 to 1 around the circle of hues.
@@ -67,15 +72,14 @@ fn ramp(p: f32, q: f32, t: f32) -> f32
     ensures { result ≡ ramp_of p q t }
 {
     if t < 1.0 / 6.0 {
-        return p + (q - p) * 6.0 * t;
+        p + (q - p) * 6.0 * t
+    } else if t < 0.5 {
+        q
+    } else if t < 2.0 / 3.0 {
+        p + (q - p) * (2.0 / 3.0 - t) * 6.0
+    } else {
+        p
     }
-    if t < 0.5 {
-        return q;
-    }
-    if t < 2.0 / 3.0 {
-        return p + (q - p) * (2.0 / 3.0 - t) * 6.0;
-    }
-    p
 }
 
 fn channel(p: f32, q: f32, h: f32) -> f32
@@ -102,8 +106,9 @@ pub fn hsl_to_rgb(c: Hsl) -> Rgb
 {
     let l = c.l;
     if c.s <= 0.0 {
-        return Rgb { r: l, g: l, b: l };
+        Rgb { r: l, g: l, b: l }
+    } else {
+        let q = upper(c.s, l);
+        rgb_by(c, 2.0 * l - q, q)
     }
-    let q = upper(c.s, l);
-    rgb_by(c, 2.0 * l - q, q)
 }

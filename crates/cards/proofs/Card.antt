@@ -24,7 +24,7 @@ opens [] = false
 opens (c ∷ cs) = not (is_hole c)
 
 opened : (form : List ℕ) (vs : List Cell) → opens form ≡ true → 0 < length (fill form vs)
-opened [] vs h = let z : ◌≡◌ {A = ℕ} 0 1 = cc in absurd (omega arith)
+opened [] vs h = absurd (cc)
 opened (c ∷ cs) vs h = rw (fill_byte c cs vs (not-true (is_hole c) h)) (omega arith)
 
 module _ (form : List ℕ) (some : (us : List Cell) → 0 < length (fill form us)) (shape : shaped form ≡ true) where

@@ -9,9 +9,8 @@ use lib.Dec.{eqb, leb}
 use lib.ListN.{length}
 use borrow.Author.Tests.{eqb-true, eqb-false, ne_eqb, not-true}
 use Rattle.layers.specs.Limits.{arg_words}
+use Rattle.std.specs.Prelude.{Option, Some, None}
 use Rattle.names.specs.Names.{entries, lookup}
-use Rattle.names.specs.declared.Named.{Named}
-use Rattle.names.specs.declared.Named.TheVariants.{Operator, Unknown}
 use Rattle.numerals.specs.Digits.{digit_of}
 use Rattle.numerals.specs.Numbers.{decimal_text, is_decimal, hex_text, is_word}
 use Rattle.numerals.proofs.Bools.{split, and_true}
@@ -46,9 +45,9 @@ letters_unended = letters_every (λ b. not (eqb b newline)) (λ b h. other b (λ
 spelling_unended : (s : List ℕ) → spelling s ≡ true → unended s ≡ true
 spelling_unended = spelling_every (λ b. not (eqb b newline)) (other 45 (λ e. omega arith)) (λ b h. other b (no_digit b newline end_no h))
 
-name_unended : (w : List ℕ) (r : Named) → lookup w entries ≡ r → is_known r ≡ true → unended w ≡ true
-name_unended w Unknown q h = let z : ◌≡◌ {A = ℕ} 0 1 = cc in absurd (omega arith)
-name_unended w (Operator n) q h = letters_unended w (name_letters w n q)
+name_unended : (w : List ℕ) (r : Option ℕ) → lookup w entries ≡ r → is_known r ≡ true → unended w ≡ true
+name_unended w None q h = absurd (cc)
+name_unended w (Some n) q h = letters_unended w (name_letters w n q)
 
 arguments_unended : (ws : List ℕ) → are_words ws ≡ true → unended (arguments_text ws) ≡ true
 arguments_unended [] h = refl
@@ -69,7 +68,7 @@ cell_unended c (arguments ws) h =
 -- ---- a filled form
 
 byte_before : (b : ℕ) (u : List ℕ) → not (eqb b newline) ≡ true → is_line u ≡ true → is_line (b ∷ u) ≡ true
-byte_before b [] e f = let z : ◌≡◌ {A = ℕ} 0 1 = cc in absurd (omega arith)
+byte_before b [] e f = absurd (cc)
 byte_before b (c ∷ u) e f = rw e f
 
 line_after : (s t : List ℕ) → unended s ≡ true → is_line t ≡ true → is_line (s ++ t) ≡ true
@@ -84,7 +83,7 @@ no_hole = refl
 
 -- a form that is one line is filled to one line
 pub filled_line : (form : List ℕ) (vs : List Cell) → is_line form ≡ true → fits form vs ≡ true → is_line (fill form vs) ≡ true
-filled_line [] vs l h = let z : ◌≡◌ {A = ℕ} 0 1 = cc in absurd (omega arith)
+filled_line [] vs l h = absurd (cc)
 filled_line (c ∷ []) vs l h = let q = eqb-true c newline l in rw (q, fill_byte newline [] vs no_hole)
 filled_line (c ∷ d ∷ cs) [] l h =
     let p = and_true (not (eqb c newline)) (is_line (d ∷ cs)) l in
@@ -108,14 +107,14 @@ layer_line_lem = refl
 
 -- two texts that are one begin with the same line
 same_line : (l m t u : List ℕ) → is_line l ≡ true → is_line m ≡ true → l ++ t ≡ m ++ u → l ≡ m
-same_line [] m t u h g e = let z : ◌≡◌ {A = ℕ} 0 1 = cc in absurd (omega arith)
-same_line (a ∷ []) [] t u h g e = let z : ◌≡◌ {A = ℕ} 0 1 = cc in absurd (omega arith)
+same_line [] m t u h g e = absurd (cc)
+same_line (a ∷ []) [] t u h g e = absurd (cc)
 same_line (a ∷ []) (b ∷ []) t u h g e = let q : a ≡ b = cc in rw q
 same_line (a ∷ []) (b ∷ c ∷ m) t u h g e =
     let q : a ≡ b = cc in
     let p = and_true (not (eqb b newline)) (is_line (c ∷ m)) g in
     absurd (eqb-false b newline (not-true (eqb b newline) p.0) (sym q ∙ eqb-true a newline h))
-same_line (a ∷ d ∷ l) [] t u h g e = let z : ◌≡◌ {A = ℕ} 0 1 = cc in absurd (omega arith)
+same_line (a ∷ d ∷ l) [] t u h g e = absurd (cc)
 same_line (a ∷ d ∷ l) (b ∷ []) t u h g e =
     let q : a ≡ b = cc in
     let p = and_true (not (eqb a newline)) (is_line (d ∷ l)) h in

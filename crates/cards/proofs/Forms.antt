@@ -4,7 +4,6 @@ use mathlib.Core.Path.{◌≡◌, refl, sym, ap, ◌∙◌}
 use mathlib.Core.Bool.{Bool, true, false, cond, not, ◌||◌, ◌&&◌}
 use mathlib.Core.List.{List, [], ◌∷◌, ◌++◌, append_assoc}
 use Prim.Native.Nat.{ℕ}
-use native.Mathlib.Omega.{arith}
 use lib.Dec.{eqb}
 use lib.ListN.{length}
 use borrow.Author.Tests.{eqb-true, eq-eqb, not-true}
@@ -24,8 +23,8 @@ shaped (c ∷ d ∷ cs) = (not (is_hole c) || (not (is_hole d) && closes c (d �
 at_byte : (c : ℕ) (s : List ℕ) → is_hole c ≡ false → read_one c s ≡ read_byte c s
 unfolding read_one is_hole
 at_byte c s h =
-    split (eqb c name_hole) (λ n. let z : ◌≡◌ {A = Bool} true false = rw n at h in let y : ◌≡◌ {A = ℕ} 0 1 = cc in absurd (omega arith))
-    (λ n. split (eqb c number_hole) (λ d. let z : ◌≡◌ {A = Bool} true false = rw (n, d) at h in let y : ◌≡◌ {A = ℕ} 0 1 = cc in absurd (omega arith))
+    split (eqb c name_hole) (λ n. let z : ◌≡◌ {A = Bool} true false = rw n at h in absurd (cc))
+    (λ n. split (eqb c number_hole) (λ d. let z : ◌≡◌ {A = Bool} true false = rw (n, d) at h in absurd (cc))
     (λ d. rw (n, d, rw (n, d) at h)))
 
 pub fill_byte : (c : ℕ) (cs : List ℕ) (vs : List Cell) → is_hole c ≡ false → fill (c ∷ cs) vs ≡ c ∷ fill cs vs
@@ -41,11 +40,11 @@ byte_there : (c : ℕ) (cs : List ℕ) (vs : List Cell) (s : List ℕ) → is_ho
 byte_there c cs vs s h e = rw (fill_byte c cs vs h, at_byte c (c ∷ fill cs vs ++ s) h, eq-eqb c c refl, e)
 
 byte_was : (c : ℕ) (s : List ℕ) (vs : List Cell) (t : List ℕ) → read_byte c s ≡ scanned vs t → (s ≡ c ∷ t) × (vs ≡ [])
-byte_was c [] vs t e = let z : ◌≡◌ {A = ℕ} 0 1 = cc in absurd (omega arith)
+byte_was c [] vs t e = absurd (cc)
 byte_was c (b ∷ s) vs t e =
     split (eqb b c)
     (λ q. let z : scanned [] s ≡ scanned vs t = rw q at e in let y : b ≡ c = eqb-true b c q in let x : s ≡ t = cc in (rw (y, x), cc))
-    (λ q. let z : bad ≡ scanned vs t = rw q at e in let y : ◌≡◌ {A = ℕ} 0 1 = cc in absurd (omega arith))
+    (λ q. let z : bad ≡ scanned vs t = rw q at e in absurd (cc))
 
 -- ---- a form that was filled
 
@@ -55,7 +54,7 @@ shaped_on c (d ∷ cs) h = (and_true (not (is_hole c) || (not (is_hole d) && clo
 
 -- what follows a hole closes it
 after_hole : (c : ℕ) (cs : List ℕ) (vs : List Cell) (s : List ℕ) → is_hole c ≡ true → shaped (c ∷ cs) ≡ true → closes c (fill cs vs ++ s) ≡ true
-after_hole c [] vs s h g = let z : ◌≡◌ {A = Bool} false true = rw h at g in let y : ◌≡◌ {A = ℕ} 0 1 = cc in absurd (omega arith)
+after_hole c [] vs s h g = let z : ◌≡◌ {A = Bool} false true = rw h at g in absurd (cc)
 after_hole c (d ∷ cs) vs s h g =
     let p : (not (is_hole d) && closes c (d ∷ [])) ≡ true = rw h at (and_true (not (is_hole c) || (not (is_hole d) && closes c (d ∷ []))) (shaped (d ∷ cs)) g).0 in
     let q = and_true (not (is_hole d)) (closes c (d ∷ [])) p in
@@ -63,7 +62,7 @@ after_hole c (d ∷ cs) vs s h g =
 
 pub form_there : (form : List ℕ) (vs : List Cell) (s : List ℕ) → shaped form ≡ true → fits form vs ≡ true → read_form form (fill form vs ++ s) ≡ scanned vs s
 form_there [] [] s g h = refl
-form_there [] (v ∷ vs) s g h = let z : ◌≡◌ {A = ℕ} 0 1 = cc in absurd (omega arith)
+form_there [] (v ∷ vs) s g h = absurd (cc)
 form_there (c ∷ cs) [] s g h =
     let p = and_true (not (is_hole c)) (fits cs []) h in
     byte_there c cs [] s (not-true (is_hole c) p.0) (form_there cs [] s (shaped_on c cs g) p.1)
@@ -85,11 +84,11 @@ record Both (r : Scan) (f : List ℕ → Scan) (vs : List Cell) (t : List ℕ) :
   all : vs ≡ ws ++ us
 
 then_back : (r : Scan) (f : List ℕ → Scan) (vs : List Cell) (t : List ℕ) → and_then r f ≡ scanned vs t → Both r f vs t
-then_back bad f vs t e = let z : ◌≡◌ {A = ℕ} 0 1 = cc in absurd (omega arith)
+then_back bad f vs t e = absurd (cc)
 then_back (scanned ws s) f vs t e = by (f s) refl
   where
     by : (q : Scan) → f s ≡ q → Both (scanned ws s) f vs t
-    by bad q = let z : bad ≡ scanned vs t = rw q at e in let y : ◌≡◌ {A = ℕ} 0 1 = cc in absurd (omega arith)
+    by bad q = let z : bad ≡ scanned vs t = rw q at e in absurd (cc)
     by (scanned us u) q =
         let z : scanned (ws ++ us) u ≡ scanned vs t = rw q at e in
         let y : u ≡ t = cc in

@@ -6,10 +6,8 @@ pub mod Card
 pub mod Ends
 pub mod Reading
 pub mod Arguments
-pub mod Copying
 pub mod Filling
 pub mod Counting
-pub mod Rows
 pub mod Puts
 pub mod Outcome
 pub mod Reader

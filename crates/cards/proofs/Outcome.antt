@@ -6,21 +6,19 @@ use Prim.Native.Nat.{ℕ, suc, ◌+◌, ◌*◌, ◌-◌, ◌≤◌}
 use native.Mathlib.Omega.{arith}
 use lib.Dec.{eqb, leb}
 use lib.IntN.{ℤ, pos}
-use lib.ListN.{length, get_or, drop, length-append, length-map, replicate}
+use lib.ListN.{length, get_or, length-append, length-map, replicate}
 use borrow.Author.Tests.{leb-true, not-true, eq-eqb, ne_eqb}
+use Rattle.std.specs.Prelude.{Some, None, Result, Ok, Err}
+use Rattle.cards.specs.declared.BadCard.{BadCard}
 use Rattle.faults.specs.Faults.{NONE}
 use Rattle.layers.specs.Limits.{columns, arg_words, most_layers, at_left}
 use Rattle.numerals.proofs.Bools.{split, and_true}
 use Rattle.cards.specs.Cells.{Cell, name, number, arguments, is_cell, are_words, name_hole, number_hole, arguments_hole, column_of, words_in}
-use Rattle.cards.specs.declared.Answer.{Answer}
-use Rattle.cards.specs.declared.lines.Count.{Count}
-use Rattle.cards.specs.declared.lines.Count.TheVariants.{Layers, BadLine}
-use Rattle.cards.specs.declared.lines.Next.TheVariants.{At, Nowhere}
 use Rattle.cards.specs.Forms.{tray_form, layer_form, is_hole, fits, Scan, bad, scanned, read_form}
 use Rattle.cards.specs.Card.{all_fit, Lines, refused, lines, read_lines, Read, as_card, after_tray, read_card}
 use Rattle.cards.specs.Answers.{padded, numbers_of, full_window, row_of, args_in, rows_of, args_of, table_length, args_length, table_of, words_of}
-use Rattle.cards.specs.Answers.{outcome, answer, refusal, outcome_of, read_of}
-use Rattle.cards.specs.Steps.{put, put_words, holes, no_row, rowed, row_by, row_in, put_rows, put_args, Counted, stopped, counted, counted_by, counted_in, Written, written, written_of}
+use Rattle.cards.specs.Answers.{Answer, outcome, answer, refusal, outcome_of, read_of}
+use Rattle.cards.specs.Steps.{put, put_words, holes, unfilled, filled, filled_in, numbers_in, put_rows, put_args, Counted, stopped, counted, counted_in, Written, written, written_of}
 use Rattle.cards.proofs.Card.{Says, lines_say, layer_some, layer_shaped}
 use Rattle.cards.proofs.Forms.{form_back}
 use Rattle.cards.proofs.Puts.{put_past, put_front, put_padded, padded_length}
@@ -30,7 +28,7 @@ use Rattle.cards.proofs.Puts.{put_past, put_front, put_padded, padded_length}
 -- a form has as many cells as holes
 pub fits_length : (form : List ℕ) (vs : List Cell) → fits form vs ≡ true → length vs ≡ holes form
 fits_length [] [] h = refl
-fits_length [] (v ∷ vs) h = let z : ◌≡◌ {A = ℕ} 0 1 = cc in absurd (omega arith)
+fits_length [] (v ∷ vs) h = absurd (cc)
 fits_length (c ∷ cs) [] h =
     let p = and_true (not (is_hole c)) (fits cs []) h in
     rw (not-true (is_hole c) p.0) (fits_length cs [] p.1)
@@ -56,7 +54,7 @@ single (c ∷ cs) = cond (eqb c arguments_hole) (bare cs) (single cs)
 no_words : (c : ℕ) (v : Cell) → eqb c arguments_hole ≡ false → is_cell c v ≡ true → words_in v ≡ []
 no_words c (name w) h e = refl
 no_words c (number z) h e = refl
-no_words c (arguments ws) h e = let z : ◌≡◌ {A = Bool} false true = rw h at e in let y : ◌≡◌ {A = ℕ} 0 1 = cc in absurd (omega arith)
+no_words c (arguments ws) h e = let z : ◌≡◌ {A = Bool} false true = rw h at e in absurd (cc)
 
 -- a cell has four words at the most
 few_words : (c : ℕ) (v : Cell) → is_cell c v ≡ true → length (words_in v) ≤ arg_words
@@ -76,7 +74,7 @@ record Bare (vs : List Cell) : Type 0 where
 
 bare_cells : (form : List ℕ) (vs : List Cell) → bare form ≡ true → fits form vs ≡ true → Bare vs
 bare_cells [] [] b h = record { puts = λ args w. refl; none = refl }
-bare_cells [] (v ∷ vs) b h = let z : ◌≡◌ {A = ℕ} 0 1 = cc in absurd (omega arith)
+bare_cells [] (v ∷ vs) b h = absurd (cc)
 bare_cells (c ∷ cs) [] b h = record { puts = λ args w. refl; none = refl }
 bare_cells (c ∷ cs) (v ∷ vs) b h =
     let p = and_true (not (eqb c arguments_hole)) (bare cs) b in
@@ -107,7 +105,7 @@ other_cells c v vs a h r =
 
 one_cells : (form : List ℕ) (vs : List Cell) → single form ≡ true → fits form vs ≡ true → Worded vs
 one_cells [] [] b h = record { puts = λ args w. refl; few = omega arith }
-one_cells [] (v ∷ vs) b h = let z : ◌≡◌ {A = ℕ} 0 1 = cc in absurd (omega arith)
+one_cells [] (v ∷ vs) b h = absurd (cc)
 one_cells (c ∷ cs) [] b h = record { puts = λ args w. refl; few = omega arith }
 one_cells (c ∷ cs) (v ∷ vs) b h =
     split (eqb c arguments_hole)
@@ -212,121 +210,133 @@ tray_put v h =
     let q : 3 ≡ length (numbers_of v) + 0 = omega arith in
     ap (λ (n : ℕ). put (replicate n (pos 0)) 0 (numbers_of v)) q ∙ put_front (pos 0) (numbers_of v) 0 ∙ append-nil (numbers_of v)
 
+-- .. which a scan leaves of three zeros
+module _ (s : List ℕ) (args : List ℕ) where
+  pub tray_none : unfilled ≡ filled_in (replicate 3 (pos 0)) 0 args (read_form tray_form s) → None ≡ numbers_in (read_form tray_form s)
+  tray_none e = by (read_form tray_form s) e
+    where
+      by : (x : Scan) → unfilled ≡ filled_in (replicate 3 (pos 0)) 0 args x → None ≡ numbers_in x
+      by bad f = refl
+      by (scanned v t) f = absurd (cc)
+
+  pub tray_some : (row : List ℤ) (words t : List ℕ) → filled row words t ≡ filled_in (replicate 3 (pos 0)) 0 args (read_form tray_form s)
+      → Some (row, t) ≡ numbers_in (read_form tray_form s)
+  tray_some row words t e = by (read_form tray_form s) refl e
+    where
+      by : (x : Scan) → read_form tray_form s ≡ x → filled row words t ≡ filled_in (replicate 3 (pos 0)) 0 args x → Some (row, t) ≡ numbers_in x
+      by bad i f = absurd (cc)
+      by (scanned v u) i f =
+          let a : row ≡ put (replicate 3 (pos 0)) 0 (numbers_of v) = cc in
+          let b : t ≡ u = cc in
+          let c : row ≡ numbers_of v = a ∙ tray_put v (form_back tray_form s v u i).1 in
+          rw (b, c)
+
 -- ---- the layers' lines, read into lists of zeros
 
-module _ (t : List ℕ) (rows : List ℤ) (words : List ℕ) (r : Count)
-    (e : counted_by r rows words ≡ counted_in (replicate table_length (pos 0)) (replicate args_length 0) 0 (read_lines layer_form most_layers 2 t))
-    (table : List ℤ) (args : List ℕ) where
+module _ (t : List ℕ) (table : List ℤ) (args : List ℕ) where
   abbrev Counts : Lines → Counted → Type 0
   Counts x c = c ≡ counted_in (replicate table_length (pos 0)) (replicate args_length 0) 0 x
 
-  pub layers_refused : (n : ℕ) → r ≡ BadLine n → written (BadLine n) table args ≡ written_of (read_lines layer_form most_layers 2 t) table args
-  layers_refused n q = by (read_lines layer_form most_layers 2 t) (sym (ap (λ (x : Count). counted_by x rows words) q) ∙ e)
+  pub layers_refused : (e : BadCard) → Counts (read_lines layer_form most_layers 2 t) (stopped e.line)
+      → written (Err e) table args ≡ written_of (read_lines layer_form most_layers 2 t) table args
+  layers_refused e q = by (read_lines layer_form most_layers 2 t) q
     where
-      by : (x : Lines) → Counts x (stopped n) → written (BadLine n) table args ≡ written_of x table args
-      by (refused m) f = let i : n ≡ m = cc in rw i
-      by (lines vs) f = let z : ◌≡◌ {A = ℕ} 0 1 = cc in absurd (omega arith)
+      by : (x : Lines) → Counts x (stopped e.line) → written (Err e) table args ≡ written_of x table args
+      by (refused m) f = let i : e.line ≡ m = cc in rw (← i)
+      by (lines vs) f = absurd (cc)
 
-  pub layers_written : (k : ℕ) → r ≡ Layers k → written (Layers k) rows words ≡ written_of (read_lines layer_form most_layers 2 t) table args
-  layers_written k q =
-      by (read_lines layer_form most_layers 2 t) (lines_say layer_form layer_some layer_shaped most_layers 2 t) (sym (ap (λ (x : Count). counted_by x rows words) q) ∙ e)
+  pub layers_written : (rows : List ℤ) (words : List ℕ) (k : ℕ) → Counts (read_lines layer_form most_layers 2 t) (counted rows words k)
+      → written (Ok k) rows words ≡ written_of (read_lines layer_form most_layers 2 t) table args
+  layers_written rows words k q = by (read_lines layer_form most_layers 2 t) (lines_say layer_form layer_some layer_shaped most_layers 2 t) q
     where
-      by : (x : Lines) → Says layer_form layer_some layer_shaped most_layers 2 t x → Counts x (counted rows words k) → written (Layers k) rows words ≡ written_of x table args
-      by (refused m) w f = let z : ◌≡◌ {A = ℕ} 0 1 = cc in absurd (omega arith)
+      by : (x : Lines) → Says layer_form layer_some layer_shaped most_layers 2 t x → Counts x (counted rows words k) → written (Ok k) rows words ≡ written_of x table args
+      by (refused m) w f = absurd (cc)
       by (lines vs) w f =
           let i : k ≡ 0 + length vs = cc in
           let l : 0 + length vs ≡ length vs = omega arith in
           let a : rows ≡ put_rows (replicate table_length (pos 0)) 0 vs = cc in
           let b : words ≡ put_args (replicate args_length 0) 0 vs = cc in
-          ap (λ (n : ℕ). written (Layers n) rows words) (i ∙ l)
-          ∙ ap (λ (x : List ℤ). written (Layers (length vs)) x words) (a ∙ table_put vs w.fit w.few)
-          ∙ ap (λ (x : List ℕ). written (Layers (length vs)) (table_of vs) x) (b ∙ words_put vs w.fit w.few)
+          ap (λ (n : ℕ). written (Ok n) rows words) (i ∙ l)
+          ∙ ap (λ (x : List ℤ). written (Ok (length vs)) x words) (a ∙ table_put vs w.fit w.few)
+          ∙ ap (λ (x : List ℕ). written (Ok (length vs)) (table_of vs) x) (b ∙ words_put vs w.fit w.few)
 
--- there are as many layers as a job may have, at the most
-pub layers_few : (t : List ℕ) (k : ℕ) (rows table : List ℤ) (words args : List ℕ)
-    → written (Layers k) rows words ≡ written_of (read_lines layer_form most_layers 2 t) table args → k ≤ most_layers
-layers_few t k rows table words args e = by (read_lines layer_form most_layers 2 t) (lines_say layer_form layer_some layer_shaped most_layers 2 t) (ap (λ (l : Written). l.count) e)
-  where
-    by : (x : Lines) → Says layer_form layer_some layer_shaped most_layers 2 t x → Layers k ≡ (written_of x table args).count → k ≤ most_layers
-    by (refused m) w f = let z : ◌≡◌ {A = ℕ} 0 1 = cc in absurd (omega arith)
-    by (lines vs) w f = let i : k ≡ length vs = cc in omega (arith, w.few)
+  -- there are as many layers as a job may have, at the most
+  pub layers_few : (k : ℕ) (rows : List ℤ) (words : List ℕ) → written (Ok k) rows words ≡ written_of (read_lines layer_form most_layers 2 t) table args → k ≤ most_layers
+  layers_few k rows words e = by (read_lines layer_form most_layers 2 t) (lines_say layer_form layer_some layer_shaped most_layers 2 t) (ap (λ (l : Written). l.count) e)
+    where
+      by : (x : Lines) → Says layer_form layer_some layer_shaped most_layers 2 t x → Ok k ≡ (written_of x table args).count → k ≤ most_layers
+      by (refused m) w f = absurd (cc)
+      by (lines vs) w f = let i : k ≡ length vs = cc in omega (arith, w.few)
 
 -- ---- what the reader answers
 
 abbrev pub answer_by : List ℤ → ℕ → Answer
 answer_by row k = answer NONE 0 (get_or row 0 (pos 0)) (get_or row 1 (pos 0)) (get_or row 2 (pos 0)) (pos k)
 
-module _ (s : List ℕ) (row : List ℤ) (table : List ℤ) (args : List ℕ) where
-  pub tray_refused : row_by Nowhere s row ≡ row_in (replicate 3 (pos 0)) (read_form tray_form s) → outcome (refusal 1) table args ≡ outcome_of (read_card s) table args
+module _ (s : List ℕ) (table : List ℤ) (args : List ℕ) where
+  pub tray_refused : None ≡ numbers_in (read_form tray_form s) → outcome (refusal 1) table args ≡ outcome_of (read_card s) table args
   unfolding read_card
   tray_refused e = by (read_form tray_form s) e
     where
-      by : (r : Scan) → no_row ≡ row_in (replicate 3 (pos 0)) r → outcome (refusal 1) table args ≡ outcome_of (after_tray r) table args
+      by : (r : Scan) → None ≡ numbers_in r → outcome (refusal 1) table args ≡ outcome_of (after_tray r) table args
       by bad f = refl
-      by (scanned v t) f = let z : ◌≡◌ {A = ℕ} 0 1 = cc in absurd (omega arith)
+      by (scanned v t) f = absurd (cc)
 
-  -- the tray's cells
-  record Tray (n : ℕ) : Type 0 where
-    v : List Cell
-    is : read_form tray_form s ≡ scanned v (drop n s)
-    numbers : row ≡ numbers_of v
+  -- after a tray's line with the numbers `row`, which leaves u, and the layers' lines
+  module _ (row : List ℤ) (u : List ℕ) (e : Some (row, u) ≡ numbers_in (read_form tray_form s)) where
+    -- the tray's cells
+    record Tray : Type 0 where
+      v : List Cell
+      is : read_form tray_form s ≡ scanned v u
+      numbers : row ≡ numbers_of v
 
-  tray : (n : ℕ) → row_by (At n) s row ≡ row_in (replicate 3 (pos 0)) (read_form tray_form s) → Tray n
-  tray n e = by (read_form tray_form s) refl e
-    where
-      by : (r : Scan) → read_form tray_form s ≡ r → rowed row (drop n s) ≡ row_in (replicate 3 (pos 0)) r → Tray n
-      by bad q f = let z : ◌≡◌ {A = ℕ} 0 1 = cc in absurd (omega arith)
-      by (scanned v t) q f =
-          let u : t ≡ drop n s = cc in
-          let m : row ≡ put (replicate 3 (pos 0)) 0 (numbers_of v) = cc in
-          record { v = v; is = q ∙ ap (scanned v) u; numbers = m ∙ tray_put v (form_back tray_form s v t q).1 }
+    tray : Tray
+    tray = by (read_form tray_form s) refl e
+      where
+        by : (r : Scan) → read_form tray_form s ≡ r → Some (row, u) ≡ numbers_in r → Tray
+        by bad q f = absurd (cc)
+        by (scanned v t) q f =
+            let p : ◌≡◌ {A = List ℤ × List ℕ} (row, u) (numbers_of v, t) = cc in
+            record { v = v; is = q ∙ ap (scanned v) (sym (ap (λ (x : List ℤ × List ℕ). x.1) p)); numbers = ap (λ (x : List ℤ × List ℕ). x.0) p }
 
-  module _ (n : ℕ) (y : Tray n) where
-    card : read_card s ≡ as_card y.v (read_lines layer_form most_layers 2 (drop n s))
+    card : read_card s ≡ as_card tray.v (read_lines layer_form most_layers 2 u)
     unfolding read_card
-    card = ap after_tray y.is
+    card = ap after_tray tray.is
 
-    line_outcome : (m : ℕ) (t : List ℤ) (a : List ℕ) (x : Lines) → written (BadLine m) t a ≡ written_of x table args
-        → outcome (refusal m) t a ≡ outcome_of (as_card y.v x) table args
-    line_outcome m t a (refused j) e =
-        let c : BadLine m ≡ BadLine j = ap (λ (l : Written). l.count) e in
-        let i : m ≡ j = cc in
-        rw (i, ap (λ (l : Written). l.table) e, ap (λ (l : Written). l.args) e)
-    line_outcome m t a (lines vs) e =
-        let c : BadLine m ≡ Layers (length vs) = ap (λ (l : Written). l.count) e in
-        let z : ◌≡◌ {A = ℕ} 0 1 = cc in
-        absurd (omega arith)
+    module _ (t : List ℤ) (a : List ℕ) where
+      line_outcome : (b : BadCard) (x : Lines) → written (Err b) t a ≡ written_of x table args → outcome (refusal b.line) t a ≡ outcome_of (as_card tray.v x) table args
+      line_outcome b (refused j) f =
+          let c : Err b ≡ Err (record { line = j }) = ap (λ (l : Written). l.count) f in
+          let d : b ≡ record { line = j } = cc in
+          rw (ap (λ (x : BadCard). x.line) d, ap (λ (l : Written). l.table) f, ap (λ (l : Written). l.args) f)
+      line_outcome b (lines vs) f =
+          let c : Err b ≡ Ok (length vs) = ap (λ (l : Written). l.count) f in
+          absurd (cc)
 
-    card_outcome : (k : ℕ) (t : List ℤ) (a : List ℕ) (x : Lines) → written (Layers k) t a ≡ written_of x table args
-        → outcome (answer_by (numbers_of y.v) k) t a ≡ outcome_of (as_card y.v x) table args
-    card_outcome k t a (refused j) e =
-        let c : Layers k ≡ BadLine j = ap (λ (l : Written). l.count) e in
-        let z : ◌≡◌ {A = ℕ} 0 1 = cc in
-        absurd (omega arith)
-    card_outcome k t a (lines vs) e =
-        let c : Layers k ≡ Layers (length vs) = ap (λ (l : Written). l.count) e in
-        let i : k ≡ length vs = cc in
-        let p : t ≡ table_of vs = ap (λ (l : Written). l.table) e in
-        let q : a ≡ words_of vs = ap (λ (l : Written). l.args) e in
-        ap (λ (j : ℕ). outcome (answer_by (numbers_of y.v) j) t a) i
-        ∙ ap (λ (l : List ℤ). outcome (answer_by (numbers_of y.v) (length vs)) l a) p
-        ∙ ap (λ (l : List ℕ). outcome (answer_by (numbers_of y.v) (length vs)) (table_of vs) l) q
+      pub line_refused : (b : BadCard) → written (Err b) t a ≡ written_of (read_lines layer_form most_layers 2 u) table args
+          → outcome (refusal b.line) t a ≡ outcome_of (read_card s) table args
+      line_refused b f = line_outcome b (read_lines layer_form most_layers 2 u) f ∙ sym (ap (λ (r : Read). outcome_of r table args) card)
 
-  -- after a tray's line up to place n, and the layers' lines
-  module _ (n : ℕ) (e : row_by (At n) s row ≡ row_in (replicate 3 (pos 0)) (read_form tray_form s)) (t : List ℤ) (a : List ℕ) where
-    pub line_refused : (m : ℕ) → written (BadLine m) t a ≡ written_of (read_lines layer_form most_layers 2 (drop n s)) table args
-        → outcome (refusal m) t a ≡ outcome_of (read_card s) table args
-    line_refused m f =
-        let y = tray n e in
-        line_outcome n y m t a (read_lines layer_form most_layers 2 (drop n s)) f ∙ sym (ap (λ (r : Read). outcome_of r table args) (card n y))
+      card_outcome : (k : ℕ) (x : Lines) → written (Ok k) t a ≡ written_of x table args
+          → outcome (answer_by (numbers_of tray.v) k) t a ≡ outcome_of (as_card tray.v x) table args
+      card_outcome k (refused j) f =
+          let c : ◌≡◌ {A = Result ℕ BadCard} (Ok k) (Err (record { line = j })) = ap (λ (l : Written). l.count) f in
+          absurd (cc)
+      card_outcome k (lines vs) f =
+          let c : Ok k ≡ Ok (length vs) = ap (λ (l : Written). l.count) f in
+          let i : k ≡ length vs = cc in
+          let p : t ≡ table_of vs = ap (λ (l : Written). l.table) f in
+          let q : a ≡ words_of vs = ap (λ (l : Written). l.args) f in
+          ap (λ (j : ℕ). outcome (answer_by (numbers_of tray.v) j) t a) i
+          ∙ ap (λ (l : List ℤ). outcome (answer_by (numbers_of tray.v) (length vs)) l a) p
+          ∙ ap (λ (l : List ℕ). outcome (answer_by (numbers_of tray.v) (length vs)) (table_of vs) l) q
 
-    pub card_read : (k : ℕ) → written (Layers k) t a ≡ written_of (read_lines layer_form most_layers 2 (drop n s)) table args
-        → outcome (answer_by row k) t a ≡ outcome_of (read_card s) table args
-    card_read k f =
-        let y = tray n e in
-        ap (λ (l : List ℤ). outcome (answer_by l k) t a) y.numbers
-        ∙ card_outcome n y k t a (read_lines layer_form most_layers 2 (drop n s)) f
-        ∙ sym (ap (λ (r : Read). outcome_of r table args) (card n y))
+      pub card_read : (k : ℕ) → written (Ok k) t a ≡ written_of (read_lines layer_form most_layers 2 u) table args
+          → outcome (answer_by row k) t a ≡ outcome_of (read_card s) table args
+      card_read k f =
+          ap (λ (l : List ℤ). outcome (answer_by l k) t a) tray.numbers
+          ∙ card_outcome k (read_lines layer_form most_layers 2 u) f
+          ∙ sym (ap (λ (r : Read). outcome_of r table args) card)
 
 -- the lengths of the lent lists
 module _ (s : List ℕ) (table : List ℤ) (args : List ℕ) where

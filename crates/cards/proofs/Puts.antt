@@ -1,12 +1,16 @@
 -- Elements put into a list, in one part or in two; and into one of the same element over and over: they stand at its front, and the rest is as it was.
 -- Assumes nothing.
 use mathlib.Core.Path.{◌≡◌, refl, sym, ap, ◌∙◌}
-use mathlib.Core.List.{List, [], ◌∷◌, ◌++◌, append_assoc}
+use mathlib.Core.List.{List, [], ◌∷◌, ◌++◌, append_assoc, append-nil}
 use Prim.Native.Nat.{ℕ, suc, ◌+◌, ◌-◌, ◌≤◌}
 use native.Mathlib.Omega.{arith}
-use lib.ListN.{length, set, length-append, length-set, replicate, length-replicate, replicate-append-replicate}
+use borrow.Rule.Slice.PartMut.{put_mid, mid_of}
+use lib.ListN.{length, take, drop, length-drop, drop_of_length-le, set, length-append, length-set, replicate, length-replicate, replicate-append-replicate}
+use lib.Seq.{take-append_seam, drop-append_seam, length-take-le, take_all}
+use Rattle.std.proofs.lemmas.List.{take-append-drop}
+use Rattle.cards.specs.Cells.{Cell, words_in}
 use Rattle.cards.specs.Answers.{padded}
-use Rattle.cards.specs.Steps.{put}
+use Rattle.cards.specs.Steps.{put, put_words}
 
 module _ {A : Type 0} where
   put_cons : (x : A) (xs : List A) (n : ℕ) (ys : List A) → put (x ∷ xs) (suc n) ys ≡ x ∷ put xs n ys
@@ -50,3 +54,42 @@ module _ {A : Type 0} where
 
   pub padded_length : (z : A) (ys : List A) (n : ℕ) → length ys ≤ n → length (padded n z ys) ≡ n
   padded_length z ys n h = omega (arith, length-append ys (replicate (n - length ys) z), length-replicate (n - length ys) z)
+
+  -- over the front of a list, and over a part of it
+  pub put_over : (zs ys : List A) → length ys ≤ length zs → put zs 0 ys ≡ ys ++ drop (length ys) zs
+  put_over zs [] h = refl
+  put_over [] (y ∷ ys) h = absurd (omega arith)
+  put_over (z ∷ zs) (y ∷ ys) h = put_cons y zs 0 ys ∙ ap (λ (l : List A). y ∷ l) (put_over zs ys (omega arith))
+
+  module _ (xs ys : List A) (n : ℕ) where
+    -- a list that is put into what stands from place n on
+    pub put_from : n ≤ length xs → take n xs ++ put (drop n xs) 0 ys ≡ put xs n ys
+    put_from h =
+        sym (put_past (take n xs) (drop n xs) n ys (sym (length-take-le n xs h)))
+        ∙ ap (λ (l : List A). put l n ys) (take-append-drop n xs)
+
+    pub put_rest : n ≤ length xs → put_mid n (length xs - n) xs ys ≡ take n xs ++ ys
+    put_rest h =
+        let e : drop (length xs - n) (drop n xs) ≡ [] = drop_of_length-le (drop n xs) (omega (arith, length-drop n xs)) in
+        ap (λ (l : List A). take n xs ++ (ys ++ l)) e ∙ ap (λ (l : List A). take n xs ++ l) (append-nil ys)
+
+    pub mid_rest : mid_of n (length xs - n) xs ≡ drop n xs
+    mid_rest = take_all (length xs - n) (drop n xs) (omega (arith, length-drop n xs))
+
+    pub put_part : n + length ys ≤ length xs → take n xs ++ (ys ++ drop (length ys) (drop n xs)) ≡ put xs n ys
+    put_part h =
+        ap (λ (l : List A). take n xs ++ l) (sym (put_over (drop n xs) ys (omega (arith, length-drop n xs))))
+        ∙ put_from (omega arith)
+
+-- the words of cells, put into what stands from place n on
+pub words_from : (vs : List Cell) (xs : List ℕ) (n : ℕ) → n ≤ length xs → take n xs ++ put_words (drop n xs) 0 vs ≡ put_words xs n vs
+words_from [] xs n h = take-append-drop n xs
+words_from (v ∷ vs) xs n h =
+    let ys = put (drop n xs) 0 (words_in v) in
+    let e : take n xs ++ ys ≡ put xs n (words_in v) = put_from xs (words_in v) n h in
+    let l : length (take n xs) ≡ n = length-take-le n xs h in
+    let a : take n (put xs n (words_in v)) ≡ take n xs = ap (take n) (sym e) ∙ ap (λ (m : ℕ). take m (take n xs ++ ys)) (sym l) ∙ take-append_seam (take n xs) ys in
+    let b : drop n (put xs n (words_in v)) ≡ ys = ap (drop n) (sym e) ∙ ap (λ (m : ℕ). drop m (take n xs ++ ys)) (sym l) ∙ drop-append_seam (take n xs) ys in
+    ap (λ (t : List ℕ). t ++ put_words ys 0 vs) (sym a)
+    ∙ ap (λ (t : List ℕ). take n (put xs n (words_in v)) ++ put_words t 0 vs) (sym b)
+    ∙ words_from vs (put xs n (words_in v)) n (omega (arith, put_length xs n (words_in v)))

@@ -29,7 +29,7 @@ right_lengths : (table : List ℤ) (args : List ℕ) → (not (eqb (length table
 right_lengths table args e =
     split (eqb (length table) table_length)
     (λ t. (eqb-true _ _ t, eqb-true _ _ (not-false (eqb (length args) args_length) (rw t at e))))
-    (λ t. let z : ◌≡◌ {A = Bool} true false = rw t at e in let y : ◌≡◌ {A = ℕ} 0 1 = cc in absurd (omega arith))
+    (λ t. let z : ◌≡◌ {A = Bool} true false = rw t at e in absurd (cc))
 
 pub prints_accepted : (c : Card) → Printable c → (table : List ℤ) (args : List ℕ) → length table ≡ table_length → length args ≡ args_length
     → read_of (printed c) table args ≡ outcome (accepted c) (table_of c.layers) (words_of c.layers)

@@ -2,7 +2,6 @@
 use mathlib.Core.Path.{◌≡◌, refl, sym, ap, ◌∙◌}
 use mathlib.Core.Bool.{Bool, true, false, cond, ◌&&◌}
 use mathlib.Core.List.{List, [], ◌∷◌, ◌++◌, append_assoc}
-use mathlib.Core.Option.{some}
 use Prim.Native.Nat.{ℕ, zero, suc, ◌≤◌}
 use native.Mathlib.Omega.{arith}
 use lib.Dec.{eqb, leb}
@@ -10,14 +9,9 @@ use lib.IntN.{ℤ}
 use lib.ListN.{length}
 use borrow.Author.Tests.{eqb-true, leb-true, lt-ltb, le-leb}
 use Rattle.layers.specs.Limits.{arg_words}
+use Rattle.std.specs.Prelude.{Option, Some, None}
 use Rattle.names.specs.Names.{entries, lookup}
-use Rattle.names.specs.declared.Named.{Named}
-use Rattle.names.specs.declared.Named.TheVariants.{Operator, Unknown}
 use Rattle.numerals.specs.Numbers.{decimal_text, is_decimal, decimal_of, hex_text, is_word, hex_of}
-use Rattle.numerals.specs.declared.Integer.{Integer}
-use Rattle.numerals.specs.declared.Integer.TheVariants as I
-use Rattle.numerals.specs.declared.Number.{Number}
-use Rattle.numerals.specs.declared.Number.TheVariants.{Of, Not}
 use Rattle.numerals.proofs.Bools.{split, and_true}
 use Rattle.numerals.proofs.Numbers.{decimal_there, decimal_back, hex_there, hex_back}
 use Rattle.cards.specs.Cells.{Cell, name, number, arguments, arguments_text, spell, name_hole, number_hole, arguments_hole, is_known, is_name, are_words, is_cell}
@@ -29,14 +23,14 @@ use Rattle.cards.proofs.Words.{plain, ends, letters_plain, spelling_plain, word_
 -- ---- a word
 
 -- a name's or a number's text, by the cell that it is read as
-word_read : (c : ℕ) (w s : List ℕ) (v : Cell) → plain w ≡ true → ends s ≡ true → cell_of c w ≡ some v → read_word c (w ++ s) ≡ scanned (v ∷ []) s
+word_read : (c : ℕ) (w s : List ℕ) (v : Cell) → plain w ≡ true → ends s ≡ true → cell_of c w ≡ Some v → read_word c (w ++ s) ≡ scanned (v ∷ []) s
 unfolding read_word
 word_read c w s v p e q = rw (word_first s e w p, word_rest s e w p, q)
 
 -- the name that a list of names has
-known_name : (w : List ℕ) (r : Named) → lookup w entries ≡ r → is_known r ≡ true → (areNamed : named w r ≡ some (name w)) × (plain w ≡ true)
-known_name w Unknown q h = let z : ◌≡◌ {A = ℕ} 0 1 = cc in absurd (omega arith)
-known_name w (Operator n) q h = (refl, letters_plain w (name_letters w n q))
+known_name : (w : List ℕ) (r : Option ℕ) → lookup w entries ≡ r → is_known r ≡ true → (areNamed : named w r ≡ Some (name w)) × (plain w ≡ true)
+known_name w None q h = absurd (cc)
+known_name w (Some n) q h = (refl, letters_plain w (name_letters w n q))
 
 name_there : (w s : List ℕ) → is_name w ≡ true → ends s ≡ true → read_word name_hole (w ++ s) ≡ scanned (name w ∷ []) s
 unfolding is_name cell_of
@@ -59,9 +53,9 @@ name_back : (s : List ℕ) (vs : List Cell) (t : List ℕ) → read_word name_ho
 unfolding read_word cell_of is_name
 name_back s vs t e = by (lookup (word_of s) entries) refl
   where
-    by : (r : Named) → lookup (word_of s) entries ≡ r → Held name_hole s vs t
-    by Unknown q = let z : ◌≡◌ {A = Scan} bad (scanned vs t) = rw q at e in let y : ◌≡◌ {A = ℕ} 0 1 = cc in absurd (omega arith)
-    by (Operator n) q =
+    by : (r : Option ℕ) → lookup (word_of s) entries ≡ r → Held name_hole s vs t
+    by None q = let z : ◌≡◌ {A = Scan} bad (scanned vs t) = rw q at e in absurd (cc)
+    by (Some n) q =
         let z : scanned (name (word_of s) ∷ []) (rest_of s) ≡ scanned vs t = rw q at e in
         let r : rest_of s ≡ t = cc in
         record { v = name (word_of s); cells = cc; text = sym (rw (← r) (word_whole s)); is = rw q }
@@ -70,9 +64,9 @@ number_back : (s : List ℕ) (vs : List Cell) (t : List ℕ) → read_word numbe
 unfolding read_word cell_of
 number_back s vs t e = by (decimal_of (word_of s)) refl
   where
-    by : (r : Integer) → decimal_of (word_of s) ≡ r → Held number_hole s vs t
-    by I.Not q = let z : ◌≡◌ {A = Scan} bad (scanned vs t) = rw q at e in let y : ◌≡◌ {A = ℕ} 0 1 = cc in absurd (omega arith)
-    by (I.Of x) q =
+    by : (r : Option ℤ) → decimal_of (word_of s) ≡ r → Held number_hole s vs t
+    by None q = let z : ◌≡◌ {A = Scan} bad (scanned vs t) = rw q at e in absurd (cc)
+    by (Some x) q =
         let z : scanned (number x ∷ []) (rest_of s) ≡ scanned vs t = rw q at e in
         let r : rest_of s ≡ t = cc in
         let d = decimal_back (word_of s) x q in
@@ -101,7 +95,7 @@ unfolding is_end
 after_word [] s h = closing_ends s h
 after_word (w ∷ ws) s h = refl
 
-word_there : (w s : List ℕ) (x : ℕ) → plain w ≡ true → ends s ≡ true → hex_of w ≡ Of x → read_argument (32 ∷ (w ++ s)) ≡ word x s
+word_there : (w s : List ℕ) (x : ℕ) → plain w ≡ true → ends s ≡ true → hex_of w ≡ Some x → read_argument (32 ∷ (w ++ s)) ≡ word x s
 unfolding read_argument
 word_there w s x p e q = rw (word_first s e w p, word_rest s e w p, q)
 
@@ -125,18 +119,18 @@ record Listed (m : ℕ) (s ws t : List ℕ) : Type 0 where
 -- an argument that was read
 argument_was : (s : List ℕ) (w : ℕ) (t : List ℕ) → read_argument s ≡ word w t → (s ≡ 32 ∷ (hex_text w ++ t)) × (is_word w ≡ true)
 unfolding read_argument is_word
-argument_was [] w t e = let z : ◌≡◌ {A = ℕ} 0 1 = cc in absurd (omega arith)
+argument_was [] w t e = absurd (cc)
 argument_was (b ∷ s) w t e =
     split (eqb b 32)
     (λ q. by (eqb-true b 32 q) (hex_of (word_of s)) refl (rw q at e))
-    (λ q. let x : ◌≡◌ {A = Argument} ended (word w t) = rw q at e in let z : ◌≡◌ {A = ℕ} 0 1 = cc in absurd (omega arith))
+    (λ q. let x : ◌≡◌ {A = Argument} ended (word w t) = rw q at e in absurd (cc))
   where
-    by : b ≡ 32 → (r : Number) → hex_of (word_of s) ≡ r → as_word r (rest_of s) ≡ word w t → (b ∷ s ≡ 32 ∷ (hex_text w ++ t)) × (is_word w ≡ true)
-    by h Not q x = let z : ◌≡◌ {A = ℕ} 0 1 = cc in absurd (omega arith)
-    by h (Of y) q x =
+    by : b ≡ 32 → (r : Option ℕ) → hex_of (word_of s) ≡ r → as_word r (rest_of s) ≡ word w t → (b ∷ s ≡ 32 ∷ (hex_text w ++ t)) × (is_word w ≡ true)
+    by h None q x = absurd (cc)
+    by h (Some y) q x =
         let i : y ≡ w = cc in
         let r : rest_of s ≡ t = cc in
-        let k = hex_back (word_of s) w (q ∙ ap Of i) in (
+        let k = hex_back (word_of s) w (q ∙ ap Some i) in (
           ap (λ (x : ℕ). x ∷ s) h
               ∙ ap (λ (u : List ℕ). 32 ∷ u) (sym (word_whole s) ∙ ap (λ (u : List ℕ). u ++ rest_of s) (sym k.text) ∙ ap (λ (u : List ℕ). hex_text w ++ u) r),
           lt-ltb _ _ k.small,
@@ -145,7 +139,7 @@ argument_was (b ∷ s) w t e =
 -- one argument, and those after it
 module _ (m : ℕ) (s ws t : List ℕ) (back : (u us : List ℕ) → read_words m u ≡ words us t → Listed m u us t) where
   one_back : (w : ℕ) (u : List ℕ) (r : Words) → read_argument s ≡ word w u → read_words m u ≡ r → one_more_word w r ≡ words ws t → Listed (suc m) s ws t
-  one_back w u no_words a q x = let z : ◌≡◌ {A = ℕ} 0 1 = cc in absurd (omega arith)
+  one_back w u no_words a q x = absurd (cc)
   one_back w u (words us v) a q x =
       let i : w ∷ us ≡ ws = cc in
       let r : v ≡ t = cc in
@@ -162,7 +156,7 @@ module _ (m : ℕ) (s ws t : List ℕ) (back : (u us : List ℕ) → read_words 
       let q : ws ≡ [] = cc in
       let r : s ≡ t = cc in
       record { text = rw (q, r); few = rw q (omega arith); are = rw q }
-  all_back no_word a x = let z : ◌≡◌ {A = ℕ} 0 1 = cc in absurd (omega arith)
+  all_back no_word a x = absurd (cc)
   all_back (word w u) a x = one_back w u (read_words m u) a refl x
 
 words_back : (m : ℕ) (s ws t : List ℕ) → read_words m s ≡ words ws t → Listed m s ws t
@@ -203,7 +197,7 @@ arguments_back : (s : List ℕ) (vs : List Cell) (t : List ℕ) → as_arguments
 arguments_back s vs t e = by (read_words arg_words s) refl e
   where
     by : (r : Words) → read_words arg_words s ≡ r → as_arguments r ≡ scanned vs t → Held arguments_hole s vs t
-    by no_words q x = let z : ◌≡◌ {A = ℕ} 0 1 = cc in absurd (omega arith)
+    by no_words q x = absurd (cc)
     by (words ws u) q x =
         let r : u ≡ t = cc in
         let l = words_back arg_words s ws t (q ∙ ap (words ws) r) in

@@ -2,11 +2,12 @@
 -- and arguments, unused arguments 0. Both are lent for the most layers a job may have, and rows past the last layer become 0"; another length is 12, with 0
 -- for the line, before any line; a line out of form or one too many is 12, "with the first such line counted from 1, nothing filled and the other answers
 -- 0". Edition 1 has no field for a window: "a card of edition 1 yields 0, 0, 2,048, 2,048" (A.3). Definitions only.
-use Rattle.std.specs.Prelude.{◌≡◌, cond, not, ◌||◌, List, [], ◌∷◌, ◌++◌, map, ◌⊎◌, ℕ, ◌*◌, ◌-◌, eqb, ℤ, pos, length, get_or, replicate}
+use Rattle.std.specs.Prelude.{◌≡◌, Result, Ok, Err, cond, not, ◌||◌, List, [], ◌∷◌, ◌++◌, map, ◌⊎◌, ℕ, ◌*◌, ◌-◌, eqb, ℤ, pos, length, get_or, replicate}
 use Rattle.faults.specs.Faults.{NONE, CARD}
 use Rattle.layers.specs.Cells.{cell_of}
 use Rattle.layers.specs.Limits.{columns, arg_words, most_layers, at_left, at_top, at_window_width, at_window_height}
-use Rattle.cards.specs.declared.Answer.{Answer}
+use Rattle.cards.specs.declared.Header.{Header}
+use Rattle.cards.specs.declared.BadCard.{BadCard}
 use Rattle.cards.specs.Cells.{Cell, column_of, words_in}
 use Rattle.cards.specs.Card.{Card, printed, Read, bad_line, read, read_card, Printable, Refusal}
 
@@ -57,6 +58,16 @@ words_of layers = padded args_length 0 (args_of layers)
 
 -- ---- the outcome
 
+-- what is answered: the number, NONE or CARD; the first line out of form or too many, 0 for a list of another length; the destination's width, height and
+-- channels, and the count of layers
+pub record Answer : Type 0 where
+  pub number : ℕ
+  pub line : ℕ
+  pub width : ℤ
+  pub height : ℤ
+  pub channels : ℤ
+  pub layers : ℤ
+
 -- what is answered, and the whole of both lists
 pub record Outcome : Type 0 where
   pub answer : Answer
@@ -72,6 +83,11 @@ answer number line width height channels layers =
 
 abbrev pub refusal : ℕ → Answer
 refusal n = answer CARD n (pos 0) (pos 0) (pos 0) (pos 0)
+
+-- the code's answer in these numbers
+abbrev pub answer_of : Result Header BadCard → Answer
+answer_of (Ok h) = answer NONE 0 h.width h.height h.channels h.layers
+answer_of (Err e) = refusal e.line
 
 abbrev pub accepted : Card → Answer
 accepted c = let row = numbers_of c.tray in answer NONE 0 (get_or row 0 (pos 0)) (get_or row 1 (pos 0)) (get_or row 2 (pos 0)) (pos (length c.layers))

@@ -1,11 +1,9 @@
 -- What stands in the holes of a card's lines (document 02, A.2): "one of the 83 names as `from_name` spells them", a number, or "zero to four arguments
 -- as eight small hexadecimal digits of f32 bits". Definitions only.
-use Rattle.std.specs.Prelude.{Bool, true, false, ◌&&◌, List, [], ◌∷◌, ◌++◌, ℕ, eqb, leb, ℤ, pos, length}
+use Rattle.std.specs.Prelude.{Option, Some, None, Bool, true, false, ◌&&◌, List, [], ◌∷◌, ◌++◌, ℕ, eqb, leb, ℤ, pos, length}
 use Prim.Native.Char.{code}
 use Rattle.layers.specs.Limits.{arg_words}
 use Rattle.names.specs.Names.{entries, lookup}
-use Rattle.names.specs.declared.Named.{Named}
-use Rattle.names.specs.declared.Named.TheVariants.{Operator, Unknown}
 use Rattle.numerals.specs.Numbers.{decimal_text, is_decimal, hex_text, is_word}
 
 -- a name by its bytes, a number, or arguments by their words
@@ -37,9 +35,9 @@ number_hole = code "D"
 abbrev pub arguments_hole : ℕ
 arguments_hole = code "A"
 
-abbrev pub is_known : Named → Bool
-is_known (Operator n) = true
-is_known Unknown = false
+abbrev pub is_known : Option ℕ → Bool
+is_known (Some n) = true
+is_known None = false
 
 -- a name is spelt just as the list of names spells it
 unfoldable pub is_name : List ℕ → Bool
@@ -57,9 +55,9 @@ is_cell c (arguments ws) = eqb c arguments_hole && (leb (length ws) arg_words &&
 -- ---- as the layer table has them
 
 -- the operator's number; 0 where there is none
-abbrev pub operator_of : Named → ℕ
-operator_of (Operator n) = n
-operator_of Unknown = 0
+abbrev pub operator_of : Option ℕ → ℕ
+operator_of (Some n) = n
+operator_of None = 0
 
 -- a cell's number: its operator's, itself, or how many arguments there are
 abbrev pub column_of : Cell → ℤ

@@ -1,16 +1,9 @@
 -- The form of a card's line is a text with holes (document 02, A.2). Printing fills the holes, reading takes the cells out again. Definitions only.
-use Rattle.std.specs.Prelude.{Bool, true, false, cond, not, ◌||◌, ◌&&◌, List, [], ◌∷◌, ◌++◌, ℕ, zero, suc, eqb}
-use Rattle.std.proofs.Math.Option.{Option, none, some}
+use Rattle.std.specs.Prelude.{Option, Some, None, Bool, true, false, cond, not, ◌||◌, ◌&&◌, List, [], ◌∷◌, ◌++◌, ℕ, zero, suc, eqb, ℤ}
 use Prim.Native.Char.{code}
 use Rattle.layers.specs.Limits.{arg_words}
 use Rattle.names.specs.Names.{bytes, entries, lookup}
-use Rattle.names.specs.declared.Named.{Named}
-use Rattle.names.specs.declared.Named.TheVariants.{Operator, Unknown}
 use Rattle.numerals.specs.Numbers.{decimal_of, hex_of}
-use Rattle.numerals.specs.declared.Integer.{Integer}
-use Rattle.numerals.specs.declared.Integer.TheVariants as I
-use Rattle.numerals.specs.declared.Number.{Number}
-use Rattle.numerals.specs.declared.Number.TheVariants.{Of, Not}
 use Rattle.cards.specs.Cells.{Cell, name, number, arguments, spell, is_cell, name_hole, number_hole, arguments_hole}
 
 -- each line is ended by byte 10
@@ -63,20 +56,20 @@ rest_of [] = []
 rest_of (b ∷ s) = cond (is_end b) (b ∷ s) (rest_of s)
 
 -- a word as a name or as a number
-abbrev pub named : List ℕ → Named → Option Cell
-named w (Operator n) = some (name w)
-named w Unknown = none
+abbrev pub named : List ℕ → Option ℕ → Option Cell
+named w (Some n) = Some (name w)
+named w None = None
 
-abbrev pub numbered : Integer → Option Cell
-numbered (I.Of z) = some (number z)
-numbered I.Not = none
+abbrev pub numbered : Option ℤ → Option Cell
+numbered (Some z) = Some (number z)
+numbered None = None
 
 unfoldable pub cell_of : (hole : ℕ) → List ℕ → Option Cell
 cell_of c w = cond (eqb c name_hole) (named w (lookup w entries)) (numbered (decimal_of w))
 
 abbrev pub held : Option Cell → List ℕ → Scan
-held none s = bad
-held (some v) s = scanned (v ∷ []) s
+held None s = bad
+held (Some v) s = scanned (v ∷ []) s
 
 unfoldable pub read_word : (hole : ℕ) → List ℕ → Scan
 read_word c s = held (cell_of c (word_of s)) (rest_of s)
@@ -87,9 +80,9 @@ pub data Argument : Type 0 where
   no_word : Argument
   word : ℕ → List ℕ → Argument
 
-abbrev pub as_word : Number → List ℕ → Argument
-as_word (Of w) s = word w s
-as_word Not s = no_word
+abbrev pub as_word : Option ℕ → List ℕ → Argument
+as_word (Some w) s = word w s
+as_word None s = no_word
 
 unfoldable pub read_argument : List ℕ → Argument
 read_argument [] = ended

@@ -2,33 +2,33 @@
 // The contracts cite specs/; Cells, Forms and Card say what a card is, Answers what is answered and filled.
 #![tactic(auto)]
 
-mod copies; // copies.rt: a list copied into another
 mod holes; // holes.rt: what stands in a hole of a line's form
 mod lines; // lines.rt: a line's form, and lines of one form
 
-ghost use Rattle.std.specs.Prelude.{◌≡◌, ◌≤◌, length, drop};
-ghost use Rattle.lent.specs.Lent.{before, after};
+ghost use Rattle.std.specs.Prelude.{◌≡◌, length};
 ghost use Rattle.layers.specs.Limits.{most_layers};
 ghost use Rattle.cards.specs.Forms.{layer_form};
 ghost use Rattle.cards.specs.Card.{read_lines, read_card};
-ghost use Rattle.cards.specs.Answers.{table_length, args_length, refusal, outcome, outcome_of, read_of};
+ghost use Rattle.cards.specs.Answers.{table_length, args_length, answer_of, outcome, outcome_of, read_of};
 ghost use Rattle.cards.specs.Steps.{written, written_of};
 
-use copies::{copy_numbers, copy_words};
-use faults::Fault;
 use layers::Layer;
-use lines::{Count, Next, layer_lines, tray_line};
+use lines::{layer_lines, tray_line};
 
-// What is answered: the number, NONE or CARD; the first line out of form or too many, 0 for a list of another length; the destination's width, height and
-// channels, and the count of layers.
-#[derive(Clone, Copy)]
-pub struct Answer {
-    pub number: u64,
-    pub line: u64,
+// What a card says beside its layers: the destination's width, height and channels, and how many layers there are (signed, as a job's
+// call takes it).
+#[derive(Clone, Copy, Debug, PartialEq, Eq)]
+pub struct Header {
     pub width: i64,
     pub height: i64,
     pub channels: i64,
     pub layers: i64,
+}
+
+// Why a text is no card: its first line out of form or too many; 0 where a lent list has another length.
+#[derive(Clone, Copy, Debug, PartialEq, Eq)]
+pub struct BadCard {
+    pub line: u64,
 }
 
 // The most layers, and the lengths of the lent lists.
@@ -38,68 +38,45 @@ const TABLE: usize = MOST * Layer::COLUMNS;
 
 const ARGS: usize = MOST * Layer::ARGS;
 
-fn refused(line: u64) -> Answer
-    ensures { result ≡ refusal line }
-{
-    Answer {
-        number: Fault::CARD,
-        line,
-        width: 0,
-        height: 0,
-        channels: 0,
-        layers: 0,
-    }
-}
+// The table and the arguments are two lists, as a caller in C lends them.
 
-// The layers' lines from a place of the text on: where all are in form and none is too many, they fill the lists.
-fn layers(text: &[u8], from: usize, table: &mut [i64], args: &mut [u32]) -> Count
-    requires { (from ≤ length text.now) × (length table.old ≡ table_length) × (length args.old ≡ args_length) }
-    ensures { written result (after table) (after args) ≡ written_of (read_lines layer_form most_layers 2 (drop from text.now)) (before table) (before args) }
+// The layers' lines: where all are in form and none is too many, they fill the lists.
+#[tactic(auto, using(crate::proofs::Outcome::layers_refused, crate::proofs::Outcome::layers_written))]
+fn layers(text: &[u8], table: &mut [i64], args: &mut [u32]) -> Result<usize, BadCard>
+    requires { (length table.old ≡ table_length) × (length args.old ≡ args_length) }
+    ensures { written result table.new args.new ≡ written_of (read_lines layer_form most_layers 2 text.now) table.old args.old }
 {
-    let mut rows = [0i64; TABLE];
-    let mut words = [0u32; ARGS];
-    match layer_lines(text, from, &mut rows, &mut words) {
-        Count::Layers(k) => {
-            copy_numbers(&rows, table);
-            copy_words(&words, args);
-            Count::Layers(k)
-        }
-        Count::BadLine(line) => Count::BadLine(line),
-    }
+    let mut rows = [0; TABLE];
+    let mut words = [0; ARGS];
+    let count = layer_lines(text, &mut rows, &mut words)?;
+    table.copy_from_slice(&rows);
+    args.copy_from_slice(&words);
+    Ok(count)
 }
 
 // The card that a text is, read into lists of the right lengths.
-fn read_lines(text: &[u8], table: &mut [i64], args: &mut [u32]) -> Answer
+#[tactic(auto, using(crate::proofs::Outcome::layers_few, crate::proofs::Outcome::tray_refused, crate::proofs::Outcome::line_refused, crate::proofs::Outcome::card_read))]
+fn read_lines(text: &[u8], table: &mut [i64], args: &mut [u32]) -> Result<Header, BadCard>
     requires { (length table.old ≡ table_length) × (length args.old ≡ args_length) }
-    ensures { outcome result (after table) (after args) ≡ outcome_of (read_card text.now) (before table) (before args) }
+    ensures { outcome (answer_of result) table.new args.new ≡ outcome_of (read_card text.now) table.old args.old }
 {
-    let mut tray = [0i64; 3];
-    let Next::At(second) = tray_line(text, &mut tray) else {
-        return refused(1);
-    };
-    match layers(text, second, table, args) {
-        Count::Layers(k) => Answer {
-            number: Fault::NONE,
-            line: 0,
-            width: tray[0],
-            height: tray[1],
-            channels: tray[2],
-            layers: k as i64,
-        },
-        Count::BadLine(line) => refused(line as u64),
-    }
+    let ([width, height, channels], rest) = tray_line(text).ok_or(BadCard { line: 1 })?;
+    let count = layers(rest, table, args)?;
+    Ok(Header {
+        width,
+        height,
+        channels,
+        layers: count as i64,
+    })
 }
 
 // The card that a text is, read into the layer table and the arguments.
 #[tactic(auto, using(crate::proofs::Outcome::table_other, crate::proofs::Outcome::args_other, crate::proofs::Outcome::lengths_right))]
-pub fn read(text: &[u8], table: &mut [i64], args: &mut [u32]) -> Answer
-    ensures { outcome result (after table) (after args) ≡ read_of text.now (before table) (before args) }
+pub fn read(text: &[u8], table: &mut [i64], args: &mut [u32]) -> Result<Header, BadCard>
+    ensures { outcome (answer_of result) table.new args.new ≡ read_of text.now table.old args.old }
 {
-    if table.len() != TABLE {
-        return refused(0);
-    }
-    if args.len() != ARGS {
-        return refused(0);
+    if table.len() != TABLE || args.len() != ARGS {
+        return Err(BadCard { line: 0 });
     }
     read_lines(text, table, args)
 }

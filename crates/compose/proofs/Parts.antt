@@ -9,7 +9,7 @@ use lib.Seq.{take_all, take_at, drop_at, drop-drop}
 use borrow.Rule.Slice.PartMut.{mid_of, put_mid}
 use Rattle.pictures.specs.Widen.{rgba_at, values_of}
 use Rattle.pictures.specs.FlatWords.{flat}
-use Rattle.pictures.specs.Steps.{filled, put_of}
+use Rattle.pictures.specs.Steps.{filled, put_of, values_at}
 use Rattle.pictures.specs.declared.Words.{Words}
 use Rattle.pictures.proofs.FlatWords.{flat_same, flat_append, length_flat, filled_more, part_at, flat_pixel}
 use Rattle.compose.specs.Plans.{composed_by, pixels_from, pixel_on}
@@ -59,3 +59,12 @@ module _ (f : ℕ → Words) (j m : ℕ) (o out part : List ℕ) (before : out �
       let written : part ≡ flat f j m ++ drop (4 * (j + m)) o =
       e ∙ rw (lent, drop-drop (4 * m) (4 * j) o, four) (ap (λ (x : List ℕ). x ++ drop (4 * (j + m)) o) (flat_same (λ i. f (j + i)) f 0 j m (λ i h. ap f (ap (λ (x : ℕ). j + x) (zero-add i))))) in
       rw (front, written, none, append-nil, flat_append f 0 j m, zero-add, append_assoc)
+
+-- a step of the whole picture: n pixels more, whose own pixels stand in a buffer
+pub span_more : (p : Plan) (source dst : List ℕ) (channels j n : ℕ) (before o : List ℕ) {own out part : List ℕ}
+    → out ≡ filled (pixel_on p source (rgba_at dst channels)) j o → length out ≡ length o → 4 * (j + n) ≤ length o
+    → own ≡ filled (λ i. rgba_at dst channels (j + i)) n before
+    → part ≡ filled (pixels_from p source (values_at dst channels) (rgba_at own 4) j) n (mid_of (4 * j) (length out - 4 * j) out)
+    → put_mid (4 * j) (length out - 4 * j) out part ≡ filled (pixel_on p source (rgba_at dst channels)) (j + n) o
+span_more p source dst channels j n before o {own} {out} {part} e same room held run =
+    part_more _ j n o out part e same room (run ∙ own_beneath p source (rgba_at dst channels) (rgba_at own 4) j n _ (λ i. filled_at _ before n i held))

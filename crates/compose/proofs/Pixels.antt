@@ -1,4 +1,5 @@
 -- Where a pixel lies in its picture, row by row, in its source, and in a run. Assumes nothing.
+use Rattle.std.specs.Prelude.{Option, Some, None}
 use mathlib.Core.Path.{◌≡◌, sym}
 use mathlib.Core.Bool.{Bool}
 use Prim.Native.Nat.{ℕ, zero, suc, ◌+◌, ◌*◌, ◌/◌, ◌%◌, ◌<◌, ◌≤◌}
@@ -7,8 +8,6 @@ use native.Mathlib.Omega.{arith}
 use Rattle.places.specs.Bounds.{Under}
 use Rattle.places.specs.Indices.{source_index}
 use Rattle.places.specs.declared.Corner.{Corner}
-use Rattle.places.specs.declared.Index.{Index}
-use Rattle.places.specs.declared.Index.TheVariants.{At, Off}
 use Rattle.places.proofs.Indices.{index_below}
 use Rattle.compose.specs.declared.Plan.{Plan}
 use Rattle.compose.specs.Ready.{Beneath, Run, Span}
@@ -37,9 +36,9 @@ module _ (w from i : ℕ) {x y : ℕ} (e : x ≡ (from + i) % w) (f : y ≡ (fro
   steps h = rw (mod-eq_of_lt h, div-eq_of_lt h, add-zero) at (next (omega arith))
 
 -- an index that was found lies below the source's pixels
-pub index_held : (tile : Bool) (sw sh : ℕ) (corner : Corner) (x y : ℕ) (s : Index) → s ≡ source_index tile sw sh corner x y → Under (sw * sh) s
-index_held tile sw sh corner x y (At n) e = index_below tile sw sh corner x y n (sym e)
-index_held tile sw sh corner x y Off e = tt
+pub index_held : (tile : Bool) (sw sh : ℕ) (corner : Corner) (x y : ℕ) (s : Option ℕ) → s ≡ source_index tile sw sh corner x y → Under (sw * sh) s
+index_held tile sw sh corner x y (Some n) e = index_below tile sw sh corner x y n (sym e)
+index_held tile sw sh corner x y None e = tt
 
 -- pixel i of a run, in column x and row y
 pub at_run : {p : Plan} {words channels from count x y : ℕ} (i : ℕ) → Run p words channels from count → i < count

@@ -1,7 +1,7 @@
 -- A layer's arguments as its operator reads them: `arg` (composite.rs 521 to 527), the raw reading of `Mathematics` (composite.rs 1025 to 1028), and what each
 -- operator asks for, with its default. Document 01: "`arg` puts its default for a missing or non-finite value. Mathematics reads raw arguments, a
 -- missing one as 0." Definitions only.
-use Rattle.std.specs.Prelude.{cond, ◌&&◌, [], ◌∷◌, ℕ, ltb, get_or, Float}
+use Rattle.std.specs.Prelude.{cond, ◌&&◌, ℕ, ltb, get_or, Float}
 use Rattle.float_steps.specs.Notation.{◌⊖◌, ◌⊗◌, ◌⊘◌, f0, f1}
 use Rattle.float_steps.specs.Literals.{f20, f50, f100, twentieth}
 use Rattle.float_steps.specs.Order.{finite_of}
@@ -15,7 +15,7 @@ use Rattle.pixels.specs.Pixel.{unused}
 
 -- argument i, as a value
 abbrev pub value_at : Args → ℕ → Float
-value_at args i = value_of (get_or (args.a0 ∷ args.a1 ∷ args.a2 ∷ args.a3 ∷ []) i 0)
+value_at args i = value_of (get_or args.words i 0)
 
 -- argument i of so many, with the value v: the default where it is missing or not finite
 unfoldable pub arg_by : ℕ → ℕ → Float → Float → Float

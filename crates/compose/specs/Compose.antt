@@ -2,7 +2,7 @@
 -- destination's sides dw and dh, a reader of the picture beneath, and the pixel's number j, row by row: its column x is j % dw, its row y is j / dw.
 -- Document 01: "Where a source lands", "Float steps" on what is stored. Document 02, A.3: the pixels off a layer's window are kept, which the Rust does not
 -- know; specs/Unwindowed has the Rust's own result. Definitions only.
-use Rattle.std.specs.Prelude.{Bool, true, false, cond, ◌&&◌, ◌||◌, List, ℕ, ◌*◌, ◌/◌, ◌%◌, pos, take, drop, Float}
+use Rattle.std.specs.Prelude.{Bool, true, false, cond, ◌&&◌, ◌||◌, List, ℕ, ◌*◌, ◌/◌, ◌%◌, pos, take, drop, Float, Option, Some, None}
 use Rattle.std.specs.Float.{binary32}
 use Rattle.std.specs.Float.Ieee.{of_int}
 use Rattle.float_steps.specs.Axis.{axis_of}
@@ -15,8 +15,6 @@ use Rattle.operators.specs.declared.CompositeOp.TheVariants as O
 use Rattle.places.specs.Placement.{placement_of}
 use Rattle.places.specs.Indices.{source_index}
 use Rattle.places.specs.declared.Corner.{Corner}
-use Rattle.places.specs.declared.Index.{Index}
-use Rattle.places.specs.declared.Index.TheVariants.{At, Off}
 use Rattle.layers.specs.declared.ChannelMask.{ChannelMask}
 use Rattle.layers.specs.declared.Layer.{Layer}
 use Rattle.layers.specs.declared.Source.{Source}
@@ -42,13 +40,13 @@ corner_of l dw dh = placement_of l.gravity dw dh l.source.width l.source.height 
 -- ---- one pixel of a `row` (composite.rs 608 to 644): where it reads
 
 -- `sx` (composite.rs 610) and `sy`: the source's pixel on pixel j, if there is one
-abbrev pub index_on : Layer → (dw dh j : ℕ) → Index
+abbrev pub index_on : Layer → (dw dh j : ℕ) → Option ℕ
 index_on l dw dh j = source_index l.tile l.source.width l.source.height (corner_of l dw dh) (j % dw) (j / dw)
 
 -- `inside` (composite.rs 615)
-abbrev pub inside : Index → Bool
-inside (At n) = true
-inside Off = false
+abbrev pub inside : Option ℕ → Bool
+inside (Some n) = true
+inside None = false
 
 -- whether a layer covers pixel j, as `outside_overlay` (composite.rs 616 to 618) has it: it lies on the source, or overlay is on
 abbrev pub covers : Layer → (dw dh j : ℕ) → Bool
@@ -59,9 +57,9 @@ unfoldable pub writes : Layer → (dw dh j : ℕ) → Bool
 writes l dw dh j = holds l.window (j % dw) (j / dw) && covers l dw dh j
 
 -- `sp` (composite.rs 619 to 624): the source's pixel, of so many channels; off the source (0, 0, 0, 0)
-unfoldable pub source_pixel : List ℕ → (channels : ℕ) → Index → Rgba
-source_pixel source channels (At n) = values_of (rgba_at source channels n)
-source_pixel source channels Off = clear
+unfoldable pub source_pixel : List ℕ → (channels : ℕ) → Option ℕ → Rgba
+source_pixel source channels (Some n) = values_of (rgba_at source channels n)
+source_pixel source channels None = clear
 
 -- Whether the operator is a map, which reads the picture beneath through the source. The Rust's `is_map` comprises Blur
 -- besides: a layer with Blur is refused (fault 4) and never gets here.

@@ -1,12 +1,11 @@
 -- A layer's plan, which the code works out once a layer, and a pixel computed from it. Compose says what the layer asks for; that the plan gives the same
 -- is part of the contract of `plan` (`Planned`, Ready). Definitions only.
-use Rattle.std.specs.Prelude.{Bool, cond, ◌&&◌, ◌||◌, List, ℕ, ◌+◌, ◌/◌, ◌%◌}
+use Rattle.std.specs.Prelude.{Bool, cond, ◌&&◌, ◌||◌, List, ℕ, ◌+◌, ◌/◌, ◌%◌, Option}
 use Rattle.float_steps.specs.Axis.{axis_of}
 use Rattle.float_steps.specs.declared.axis.Axis.{Axis}
 use Rattle.operators.specs.Operators.{same_op}
 use Rattle.operators.specs.declared.CompositeOp.TheVariants as O
 use Rattle.places.specs.Indices.{source_index}
-use Rattle.places.specs.declared.Index.{Index}
 use Rattle.layers.specs.declared.Layer.{Layer}
 use Rattle.layers.specs.Windows.{holds}
 use Rattle.pictures.specs.Widen.{values_of}
@@ -39,7 +38,7 @@ plan_of l dw dh = record {
 
 -- ---- the pixel in column x and row y by the plan, as Compose has it by the layer
 
-abbrev pub index_by : Plan → (x y : ℕ) → Index
+abbrev pub index_by : Plan → (x y : ℕ) → Option ℕ
 index_by p x y = source_index p.tile p.width p.height p.corner x y
 
 abbrev pub covers_by : Plan → (x y : ℕ) → Bool

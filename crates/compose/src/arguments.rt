@@ -1,7 +1,9 @@
 // An operator's arguments, with their defaults in place: read once a layer.
-ghost use Rattle.std.specs.Prelude.{◌≡◌};
-ghost use Rattle.float_steps.specs.Words.{value_of};
-ghost use Rattle.compose.specs.Arguments.{arg_by, raw_by, pair, blend_params, dissolve_params, mask_params, threshold_params, modulate_params, map_params, raw_params, params_of};
+ghost use Rattle.std.specs.Prelude.{◌≡◌, ◌<◌};
+ghost use Rattle.float_steps.specs.Notation.{◌⊘◌};
+ghost use Rattle.float_steps.specs.Literals.{f100};
+ghost use Rattle.layers.specs.Limits.{arg_words};
+ghost use Rattle.compose.specs.Arguments.{arg_or, raw_arg, pair, blend_params, mask_params, threshold_params, map_params, raw_params, params_of};
 
 use float_steps::order::finite;
 use float_steps::words::value;
@@ -9,29 +11,31 @@ use layers::Args;
 use operators::CompositeOp;
 use pixels::Params;
 
-// `arg`: argument i of so many, or the default where it is missing or not finite.
+// `arg`: argument i, or the default where it is missing or not finite.
 #[tactic(auto, unfolding(crate::specs::Arguments::arg_by))]
-fn arg(count: usize, i: usize, word: u32, default: f32) -> f32
-    ensures { result ≡ arg_by count i (value_of word) default }
+fn arg(args: Args, i: usize, default: f32) -> f32
+    requires { i < arg_words }
+    ensures { result ≡ arg_or args i default }
 {
-    if i < count {
-        let v = value(word);
-        if finite(v) {
-            return v;
-        }
+    let v = value(args.words[i]);
+    if i < args.count && finite(v) {
+        v
+    } else {
+        default
     }
-    default
 }
 
-// Argument i of so many as it stands; a missing one is 0.
+// Argument i as it stands; a missing one is 0.
 #[tactic(auto, unfolding(crate::specs::Arguments::raw_by))]
-fn raw(count: usize, i: usize, word: u32) -> f32
-    ensures { result ≡ raw_by count i (value_of word) }
+fn raw(args: Args, i: usize) -> f32
+    requires { i < arg_words }
+    ensures { result ≡ raw_arg args i }
 {
-    if i < count {
-        return value(word);
+    if i < args.count {
+        value(args.words[i])
+    } else {
+        0.0
     }
-    0.0
 }
 
 fn two(a: f32, b: f32) -> Params
@@ -48,46 +52,35 @@ fn two(a: f32, b: f32) -> Params
 fn blend_params(args: Args) -> Params
     ensures { result ≡ blend_params args }
 {
-    let a = arg(args.count, 0, args.a0, 50.0) / 100.0;
-    let b = arg(args.count, 1, args.a1, 100.0 - a * 100.0) / 100.0;
+    let a = arg(args, 0, 50.0) / 100.0;
+    let b = arg(args, 1, 100.0 - a * 100.0) / 100.0;
     two(a, b)
 }
 
-fn dissolve_params(args: Args) -> Params
-    ensures { result ≡ dissolve_params args }
+// Two percentages with their defaults: Dissolve's and Modulate's.
+fn percents(args: Args, first: f32, second: f32) -> Params
+    ensures { result ≡ pair (arg_or args 0 first ⊘ f100) (arg_or args 1 second ⊘ f100) }
 {
-    let a = arg(args.count, 0, args.a0, 50.0) / 100.0;
-    let b = arg(args.count, 1, args.a1, 100.0) / 100.0;
-    two(a, b)
+    two(arg(args, 0, first) / 100.0, arg(args, 1, second) / 100.0)
 }
 
 fn mask_params(args: Args) -> Params
     ensures { result ≡ mask_params args }
 {
-    two(arg(args.count, 0, args.a0, 0.0), 0.0)
+    two(arg(args, 0, 0.0), 0.0)
 }
 
 fn threshold_params(args: Args) -> Params
     ensures { result ≡ threshold_params args }
 {
-    let threshold = arg(args.count, 0, args.a0, 0.05);
-    let amount = arg(args.count, 1, args.a1, 1.0);
-    two(threshold, amount)
-}
-
-fn modulate_params(args: Args) -> Params
-    ensures { result ≡ modulate_params args }
-{
-    let bright = arg(args.count, 0, args.a0, 100.0) / 100.0;
-    let satur = arg(args.count, 1, args.a1, 100.0) / 100.0;
-    two(bright, satur)
+    two(arg(args, 0, 0.05), arg(args, 1, 1.0))
 }
 
 fn map_params(args: Args) -> Params
     ensures { result ≡ map_params args }
 {
-    let x = arg(args.count, 0, args.a0, 20.0);
-    let y = arg(args.count, 1, args.a1, x);
+    let x = arg(args, 0, 20.0);
+    let y = arg(args, 1, x);
     two(x, y)
 }
 
@@ -95,10 +88,10 @@ fn raw_params(args: Args) -> Params
     ensures { result ≡ raw_params args }
 {
     Params {
-        a: raw(args.count, 0, args.a0),
-        b: raw(args.count, 1, args.a1),
-        c: raw(args.count, 2, args.a2),
-        d: raw(args.count, 3, args.a3),
+        a: raw(args, 0),
+        b: raw(args, 1),
+        c: raw(args, 2),
+        d: raw(args, 3),
     }
 }
 
@@ -109,16 +102,12 @@ pub fn params(op: CompositeOp, args: Args) -> Params
 {
     match op {
         CompositeOp::Blend => blend_params(args),
-        CompositeOp::Dissolve => dissolve_params(args),
+        CompositeOp::Dissolve => percents(args, 50.0, 100.0),
         CompositeOp::ChangeMask => mask_params(args),
         CompositeOp::Threshold => threshold_params(args),
-        CompositeOp::Modulate => modulate_params(args),
+        CompositeOp::Modulate => percents(args, 100.0, 100.0),
         CompositeOp::Mathematics => raw_params(args),
-        _ => {
-            if op.is_map() {
-                return map_params(args);
-            }
-            two(0.0, 0.0)
-        }
+        _ if op.is_map() => map_params(args),
+        _ => two(0.0, 0.0),
     }
 }

@@ -1,6 +1,6 @@
 // One pixel of the result, in three parts: where it reads, its result, and what is written of that. Everything that a layer decides once stands in its plan.
+// A plan is a layer's, x and y are a pixel's: they are handed on side by side.
 ghost use Rattle.std.specs.Prelude.{◌≡◌, ◌*◌, ◌<◌, ◌≤◌, length};
-ghost use Rattle.lent.specs.Lent.{before};
 ghost use Rattle.layers.specs.GoodLayers.{Picture};
 ghost use Rattle.layers.specs.Windows.{holds};
 ghost use Rattle.pictures.specs.Steps.{values_at};
@@ -14,45 +14,37 @@ use crate::Plan;
 use float_steps::axis::{Axis, locate};
 use float_steps::words::word;
 use layers::ChannelMask;
+use paint::paint;
 use pictures::bilinear::{mix, neighbours};
 use pictures::widen::{rgba_at, values};
 use pictures::{Rgba, Words};
-use places::{Index, source_index};
+use places::source_index;
 
 // Whether the layer's window holds the pixel (x, y).
 pub fn in_window(p: Plan, x: usize, y: usize) -> bool
     ensures { result ≡ holds p.window x y }
 {
-    let window = p.window;
-    window.holds(x, y)
+    p.window.holds(x, y)
 }
 
 // Whether the layer covers the pixel (x, y), on which the source's pixel `index` lies: there is one, or overlay is on. The
 // column and the row stand here for the contract alone.
-pub fn covers(p: Plan, index: Index, x: usize, y: usize) -> bool
+pub fn covers(p: Plan, index: Option<usize>, x: usize, y: usize) -> bool
     requires { index ≡ index_by p x y }
     ensures { result ≡ covers_by p x y }
 {
-    match index {
-        Index::At(_) => true,
-        Index::Off => p.overlay,
-    }
+    index.is_some() || p.overlay
 }
 
 // The source's pixel at an index; off the source (0, 0, 0, 0).
 #[tactic(auto, unfolding(crate::specs::Compose::source_pixel))]
-pub fn source_pixel(p: Plan, source: &[u32], index: Index) -> Rgba
+pub fn source_pixel(p: Plan, source: &[u32], index: Option<usize>) -> Rgba
     requires { (Ready p (length source.now)) × (Under (p.width * p.height) index) }
     ensures { result ≡ source_pixel source.now p.channels index }
 {
     match index {
-        Index::At(n) => values(rgba_at(source, p.channels, n)),
-        Index::Off => Rgba {
-            r: 0.0,
-            g: 0.0,
-            b: 0.0,
-            a: 0.0,
-        },
+        Some(n) => values(rgba_at(source, p.channels, n)),
+        None => Rgba::CLEAR,
     }
 }
 
@@ -62,9 +54,10 @@ fn map_coordinate(displace: bool, at: usize, v: f32, by: f32) -> f32
     ensures { result ≡ map_coordinate displace at v by }
 {
     if displace {
-        return (at as f32) + (v - 0.5) * by;
+        (at as f32) + (v - 0.5) * by
+    } else {
+        v * by
     }
-    v * by
 }
 
 // Where a map reads the picture beneath along one of its sides.
@@ -90,9 +83,7 @@ fn mapped(p: Plan, picture: &[u32], channels: usize, s: Rgba, x: usize, y: usize
 fn painted(p: Plan, s: Rgba, d: Rgba) -> Rgba
     ensures { result ≡ painted_by p s d }
 {
-    let op = p.op;
-    let r = paint::paint(op, p.params, s, d);
-    r.1
+    paint(p.op, p.params, s, d)
 }
 
 #[tactic(auto, unfolding(crate::specs::Plans::result_by))]
@@ -101,19 +92,17 @@ fn result(p: Plan, picture: &[u32], channels: usize, s: Rgba, d: Rgba, x: usize,
     ensures { result ≡ result_by p (values_at picture.now channels) s d x y }
 {
     if p.map {
-        return mapped(p, picture, channels, s, x, y);
+        mapped(p, picture, channels, s, x, y)
+    } else {
+        painted(p, s, d)
     }
-    painted(p, s, d)
 }
 
 // A channel: written where its flag is on, else kept with all its bits.
 fn written_word(on: bool, v: f32, kept: u32) -> u32
     ensures { result ≡ written_word on v kept }
 {
-    if on {
-        return word(v);
-    }
-    kept
+    if on { word(v) } else { kept }
 }
 
 #[tactic(auto, unfolding(crate::specs::Compose::written_of))]
@@ -149,7 +138,8 @@ pub fn composed(
     if covers(p, index, x, y) {
         let s = source_pixel(p, source, index);
         let v = result(p, picture, channels, s, values(own), x, y);
-        return written(p.mask, v, own);
+        written(p.mask, v, own)
+    } else {
+        own
     }
-    own
 }

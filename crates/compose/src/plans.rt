@@ -6,7 +6,8 @@ ghost use Rattle.places.specs.Bounds.{Measured};
 ghost use Rattle.compose.specs.Compose.{reads_through};
 ghost use Rattle.compose.specs.Ready.{Planned};
 
-use crate::{Plan, arguments};
+use crate::Plan;
+use crate::arguments::params;
 use layers::Layer;
 use operators::CompositeOp;
 use places::placement;
@@ -15,20 +16,14 @@ use places::placement;
 pub fn reads_through(op: CompositeOp) -> bool
     ensures { result ≡ reads_through op }
 {
-    match op {
-        CompositeOp::Displace | CompositeOp::Distort => true,
-        _ => false,
-    }
+    matches!(op, CompositeOp::Displace | CompositeOp::Distort)
 }
 
 // Whether it is Displace, which moves a pixel by what the source says, and not Distort, which moves it to there.
 fn displaces(op: CompositeOp) -> bool
     ensures { result ≡ same_op op O.Displace }
 {
-    match op {
-        CompositeOp::Displace => true,
-        _ => false,
-    }
+    matches!(op, CompositeOp::Displace)
 }
 
 // The layer's plan on a destination of dw by dh pixels.
@@ -38,37 +33,21 @@ pub fn plan(l: Layer, dw: usize, dh: usize) -> Plan
         × (l.source.channels ≤ 4) }
     ensures { Planned l dw dh result }
 {
-    let op = l.op;
-    let source = l.source;
-    let params = arguments::params(op, l.args);
-    let map = reads_through(op);
-    let displace = displaces(op);
-    let gravity = l.gravity;
-    let corner = placement(
-        gravity,
-        dw,
-        dh,
-        source.width,
-        source.height,
-        l.right,
-        l.down,
-    );
-    let mask = l.mask;
-    let window = l.window;
+    let (w, h) = (l.source.width, l.source.height);
     Plan {
-        op,
-        params,
-        map,
-        displace,
-        corner,
+        op: l.op,
+        params: params(l.op, l.args),
+        map: reads_through(l.op),
+        displace: displaces(l.op),
+        corner: placement(l.gravity, dw, dh, w, h, l.right, l.down),
         tile: l.tile,
         overlay: l.outside_overlay,
-        mask,
-        width: source.width,
-        height: source.height,
-        channels: source.channels,
+        mask: l.mask,
+        width: w,
+        height: h,
+        channels: l.source.channels,
         dw,
         dh,
-        window,
+        window: l.window,
     }
 }

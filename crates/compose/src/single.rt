@@ -1,8 +1,8 @@
 // The single composition: one layer on a destination of one, three or four channels, into a lent output of four.
 ghost use Rattle.std.specs.Prelude.{◌≡◌, ◌+◌, ◌*◌, pos, length};
-ghost use Rattle.lent.specs.Lent.{before, after};
+ghost use Rattle.faults.specs.Numbers.{number_in};
 ghost use Rattle.layers.specs.GoodLayers.{GoodLayer, Picture};
-ghost use Rattle.layers.specs.Inputs.{inputs};
+ghost use Rattle.layers.specs.Inputs.{inputs_of};
 ghost use Rattle.pictures.specs.Widen.{rgba_at};
 ghost use Rattle.pictures.specs.FlatWords.{flat};
 ghost use Rattle.compose.specs.Compose.{composed_of};
@@ -12,10 +12,10 @@ ghost use Rattle.compose.specs.Single.{composed, compose_of};
 
 use crate::Plan;
 use crate::plans::plan;
-use crate::run::{SPAN, min, run};
+use crate::run::{SPAN, run};
 use crate::source::source_of;
 use faults::Fault;
-use layers::{Layer, check};
+use layers::{JobInputs, Layer, check};
 use pictures::Shape;
 use pictures::flat::widen;
 use pictures::shapes::{channels_of, height_of, width_of};
@@ -25,16 +25,14 @@ fn spans(p: Plan, source: &[u32], dst: &[u32], channels: usize, total: usize, ou
     requires { (Ready p (length source.now))
         × (Span p (length dst.now) channels 0 total)
         × (length out.old ≡ 4 * total) }
-    ensures { after out ≡ flat (pixel_on p source.now (rgba_at dst.now channels)) 0 total }
+    ensures { out.new ≡ flat (pixel_on p source.now (rgba_at dst.now channels)) 0 total }
 {
     let mut own = [0u32; 4 * SPAN];
-    let mut j = 0;
-    while j < total {
-        let count = min(SPAN, total - j);
+    for j in (0..total).step_by(SPAN) {
+        let count = SPAN.min(total - j);
         let at = 4 * j;
         widen(dst, channels, j, count, &mut own);
         run(p, source, dst, channels, &own, j, count, &mut out[at..]);
-        j += count;
     }
 }
 
@@ -51,14 +49,14 @@ fn whole(
     requires { (GoodLayer (length samples.now) l)
         × (Picture dw dh channels (length dst.now))
         × (length out.old ≡ 4 * (dw * dh)) }
-    ensures { after out ≡ composed_of samples.now l dw dh channels dst.now }
+    ensures { out.new ≡ composed_of samples.now l dw dh channels dst.now }
 {
     let p = plan(l, dw, dh);
     let source = source_of(samples, l);
     spans(p, source, dst, channels, dw * dh, out);
 }
 
-// One layer on one destination: 0 and the whole picture in out, or the number of the first fault and out as it was.
+// One layer on one destination: the whole picture in out; or the first fault, with out as it was.
 pub fn compose(
     shape: Shape,
     dst: &[u32],
@@ -66,20 +64,24 @@ pub fn compose(
     args: &[u32],
     samples: &[u32],
     out: &mut [u32],
-) -> u64
-    ensures { composed result (after out) ≡ compose_of (inputs shape dst (pos 1) table args samples) (before out) }
+) -> Result<(), Fault>
+    ensures { composed (number_in result) out.new ≡ compose_of (inputs_of shape dst.now (pos 1) table.now args.now samples.now) out.old }
 {
-    let v = check(shape, dst, 1, table, args, samples);
-    let number = v.number;
-    if number != Fault::NONE {
-        return number;
+    let inputs = JobInputs {
+        shape,
+        dst,
+        count: 1,
+        table,
+        args,
+        samples,
+    };
+    if let Err(refusal) = check(inputs) {
+        return Err(refusal.fault);
     }
     let dw = width_of(shape);
     let dh = height_of(shape);
     let depth = channels_of(shape);
-    if out.len() != 4 * (dw * dh) {
-        return Fault::WORK;
-    }
+    Fault::Work.when(out.len() != 4 * (dw * dh))?;
     whole(Layer::at(table, args, 0), dw, dh, depth, dst, samples, out);
-    Fault::NONE
+    Ok(())
 }

@@ -1,6 +1,5 @@
 // A layer's source, its part of the source samples. The single composition and the job both take it from here.
 ghost use Rattle.std.specs.Prelude.{◌≡◌, ◌*◌, length};
-ghost use Rattle.lent.specs.Lent.{before};
 ghost use Rattle.layers.specs.GoodLayers.{GoodLayer};
 ghost use Rattle.compose.specs.Compose.{source_of};
 

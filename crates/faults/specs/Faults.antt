@@ -1,5 +1,5 @@
--- The numbers of the faults, each once: document 01's table, "Why a job is turned down", under its words, and those of document 02. The associated constants
--- of the type `Fault` have the same values.
+-- The numbers of the faults, each once: document 01's table, "Why a job is turned down", under its words, and those of document 02. Numbers has the number of
+-- each variant of the type `Fault`.
 use Rattle.std.specs.Prelude.{ℕ}
 
 -- no fault: the number is 0 when accepted

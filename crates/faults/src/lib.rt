@@ -1,42 +1,52 @@
-// The numbers under which a job is refused: document 01, "Why a job is turned down", under the table's words, and those of document 02. specs/Faults has the
-// same numbers for the definitions.
+// Why a call is refused: each reason with its number, in the order of the numbers. The contracts cite specs/Numbers; specs/Faults has the numbers' names for
+// the definitions.
 #![tactic(auto)]
 
-// A fault is answered as its number.
-#[derive(Clone, Copy)]
-pub struct Fault;
+ghost use Rattle.std.specs.Prelude.{◌≡◌};
+ghost use Rattle.faults.specs.Numbers.{number_of, number_in, refused_if};
+
+#[derive(Clone, Copy, Debug, PartialEq, Eq)]
+pub enum Fault {
+    Stack = 1,
+    Tray,
+    Operator,
+    Curve,
+    Placing,
+    Flags,
+    Source,
+    Arguments,
+    Work,
+    Mark,
+    Narrow,
+    Card,
+    Window,
+    JobNumber,
+    Spot,
+}
 
 impl Fault {
-    // Accepted.
-    pub const NONE: u64 = 0;
+    // The number under which a caller in C sees it.
+    #[tactic(auto, unfolding(crate::specs::Numbers::number_of))]
+    pub fn number(self) -> u64
+        ensures { result ≡ number_of self }
+    {
+        self as u64
+    }
 
-    pub const STACK: u64 = 1;
+    // A refusal for this reason where a test holds.
+    pub fn when(self, holds: bool) -> Result<(), Fault>
+        ensures { result ≡ refused_if holds self }
+    {
+        if holds { Err(self) } else { Ok(()) }
+    }
+}
 
-    pub const TRAY: u64 = 2;
-
-    pub const OPERATOR: u64 = 3;
-
-    pub const CURVE: u64 = 4;
-
-    pub const PLACING: u64 = 5;
-
-    pub const FLAGS: u64 = 6;
-
-    pub const SOURCE: u64 = 7;
-
-    pub const ARGUMENTS: u64 = 8;
-
-    pub const WORK: u64 = 9;
-
-    pub const MARK: u64 = 10;
-
-    pub const NARROW: u64 = 11;
-
-    pub const CARD: u64 = 12;
-
-    pub const WINDOW: u64 = 13;
-
-    pub const JOB_NUMBER: u64 = 14;
-
-    pub const SPOT: u64 = 15;
+// The number of an answer: 0 where nothing is refused.
+pub fn number(answer: Result<(), Fault>) -> u64
+    ensures { result ≡ number_in answer }
+{
+    match answer {
+        Ok(()) => 0,
+        Err(fault) => fault.number(),
+    }
 }

@@ -11,7 +11,7 @@ use lib.Ieee.Exact.{HasValue, odd_sign}
 use lib.Ieee.Fits.{down_pos}
 use lib.Ieee.Scale.{round_same}
 use Rattle.float_steps.proofs.Number.{round_own}
-use Rattle.float_steps.proofs.Nan.{nan_word}
+use Rattle.float_steps.proofs.Nan.{nan_made, nan_word}
 use Rattle.float_steps.proofs.Patterns.{of_bits_is}
 
 -- ---- remainders of whole numbers
@@ -239,22 +239,28 @@ large_power s h =
     whole : (z : ℕ) → 23 ≤ z → 23 + (z - 23) ≡ z
     whole z g = omega arith
 
--- ---- one step of the mantissas' remainder: 32 places
-pub step : (r b k : ℕ) → 32 ≤ k → r * 0x1_0000_0000 % b * 2 ^ (k - 32) % b ≡ r * 2 ^ k % b
-step r b k h =
-    mul-mod_first (r * 0x1_0000_0000) (2 ^ (k - 32)) b
-    ∙ ap (λ (z : ℕ). z % b) (mul_assoc r 0x1_0000_0000 (2 ^ (k - 32)) ∙ ap (λ (z : ℕ). r * z) (sym (pow-add 2 32 (k - 32)) ∙ ap (λ (z : ℕ). 2 ^ z) (whole k h)))
-  where
-    whole : (z : ℕ) → 32 ≤ z → 32 + (z - 32) ≡ z
-    whole z g = omega arith
+-- ---- the mantissas' remainder, 32 places at a time: what is left to do with r is what was to be done with a
+pub record Reducing (a b k r left : ℕ) : Type 0 where
+  pub few : r < 0x100_0000
+  pub rest : r * 2 ^ left % b ≡ a * 2 ^ k % b
 
--- the step keeps what is left to do, and the last one is a shift
-module _ (a b k r left : ℕ) (few : b < 0x100_0000) (some : 0 < b) (is : r * 2 ^ left % b ≡ a * 2 ^ k % b) where
-  pub kept : 32 ≤ left → (r * 0x1_0000_0000 % b < 0x100_0000) × (r * 0x1_0000_0000 % b * 2 ^ (left - 32) % b ≡ a * 2 ^ k % b)
-  kept h = (lt_of_lt_of_le (mod-lt (r * 0x1_0000_0000) some) (le_of_lt few), step r b left h ∙ is)
+module _ {a b k r left : ℕ} (s : Reducing a b k r left) where
+  -- no place is lost: r has 24 digits
+  room : (i : ℕ) → i ≤ 32 → r * 2 ^ i < 2 ^ 64
+  room i h = lt_of_lt_of_le (mul-lt-mul_of_pos_right s.few (pow_pos i)) (le_trans (mul-le-mul {n₁ = 2 ^ 24} {n₂ = 2 ^ 24} (lit≤ tt) (pow_mono h)) (lit≤ tt))
 
-  pub last : r < 0x100_0000 → left < 32 → r * 2 ^ left % 2 ^ 64 % b ≡ a * 2 ^ k % b
-  last g h = ap (λ (z : ℕ). z % b) (mod-eq_of_lt (lt_of_lt_of_le (mul-lt-mul_of_pos_right g (pow_pos left)) (le_trans (mul-le-mul {n₁ = 2 ^ 24} {n₂ = 2 ^ 24} (lit≤ tt) (pow_mono (le_of_lt h))) (lit≤ tt)))) ∙ is
+  step : 32 ≤ left → r * 2 ^ 32 % 2 ^ 64 % b * 2 ^ (left - 32) % b ≡ r * 2 ^ left % b
+  step h =
+      let i : 32 + (left - 32) ≡ left = omega arith in
+      ap (λ (z : ℕ). z % b * 2 ^ (left - 32) % b) (mod-eq_of_lt (room 32 (omega arith)))
+      ∙ mul-mod_first (r * 2 ^ 32) (2 ^ (left - 32)) b
+      ∙ ap (λ (z : ℕ). z % b) (mul_assoc r (2 ^ 32) (2 ^ (left - 32)) ∙ ap (λ (z : ℕ). r * z) (sym (pow-add 2 32 (left - 32)) ∙ ap (λ (z : ℕ). 2 ^ z) i))
+
+  pub one_reduced : {now : ℕ} → 0 < b → b < 0x100_0000 → 32 ≤ left → now ≡ r * 2 ^ 32 % 2 ^ 64 % b → Reducing a b k now (left - 32)
+  one_reduced p l h e = rw e record { few = lt_of_lt_of_le (mod-lt (r * 2 ^ 32 % 2 ^ 64) p) (le_of_lt l); rest = step h ∙ s.rest }
+
+  pub all_reduced : left < 32 → r * 2 ^ left % 2 ^ 64 % b ≡ a * 2 ^ k % b
+  all_reduced h = let small : left ≤ 32 = omega arith in ap (λ (z : ℕ). z % b) (mod-eq_of_lt (room left small)) ∙ s.rest
 
 -- ---- the values that are not finite, and zero
 word_inf : (w : ℕ) → w % 0x8000_0000 ≡ 0x7f80_0000 → of_bits binary32 w ≡ inf (negative w)
@@ -271,16 +277,16 @@ word_zero w h =
     let j : w % 0x80_0000 ≡ 0 = omega arith in
     of_bits_is w ∙ ap (λ (e : ℕ). of_fields binary32 (negative w) e (w % 0x80_0000)) i ∙ ap (λ (t : ℕ). of_fields binary32 (negative w) 0 t) j
 
-pub rem_of_endless : (a : ℕ) (y : Float) → 0x7f80_0000 ≤ a % 0x8000_0000 → nan ≡ rem binary32 (of_bits binary32 a) y
-unfolding rem
+pub rem_of_endless : (a : ℕ) (y : Float) → 0x7f80_0000 ≤ a % 0x8000_0000 → nan_made ≡ rem binary32 (of_bits binary32 a) y
+unfolding rem of_bits
 rem_of_endless a y h = go (eq-or-lt_of_le h)
   where
-    go : (0x7f80_0000 ≡ a % 0x8000_0000) ⊎ (0x7f80_0000 < a % 0x8000_0000) → nan ≡ rem binary32 (of_bits binary32 a) y
+    go : (0x7f80_0000 ≡ a % 0x8000_0000) ⊎ (0x7f80_0000 < a % 0x8000_0000) → nan_made ≡ rem binary32 (of_bits binary32 a) y
     go (inl e) = ap (λ (v : Float). rem binary32 v y) (sym (word_inf a (sym e)))
     go (inr g) = ap (λ (v : Float). rem binary32 v y) (sym (nan_word a g))
 
-pub rem_by_zero : (x : Float) (b : ℕ) → b % 0x8000_0000 ≡ 0 → nan ≡ rem binary32 x (of_bits binary32 b)
-unfolding rem
+pub rem_by_zero : (x : Float) (b : ℕ) → b % 0x8000_0000 ≡ 0 → nan_made ≡ rem binary32 x (of_bits binary32 b)
+unfolding rem of_bits
 rem_by_zero x b h = go x ∙ ap (λ (v : Float). rem binary32 x v) (sym (word_zero b h))
   where
     go : (v : Float) → nan ≡ rem binary32 v (fin (negative b) 0 (pos 0))
@@ -288,8 +294,8 @@ rem_by_zero x b h = go x ∙ ap (λ (v : Float). rem binary32 x v) (sym (word_ze
     go (inf s) = refl
     go (fin s m e) = refl
 
-pub rem_by_nan : (x : Float) (b : ℕ) → 0x7f80_0000 < b % 0x8000_0000 → nan ≡ rem binary32 x (of_bits binary32 b)
-unfolding rem
+pub rem_by_nan : (x : Float) (b : ℕ) → 0x7f80_0000 < b % 0x8000_0000 → nan_made ≡ rem binary32 x (of_bits binary32 b)
+unfolding rem of_bits
 rem_by_nan x b h = go x ∙ ap (λ (v : Float). rem binary32 x v) (sym (nan_word b h))
   where
     go : (v : Float) → nan ≡ rem binary32 v nan

@@ -10,4 +10,5 @@ mod Finite
 mod OwnRemainder
 mod Radicand
 mod RootEnds
+mod Absolute
 mod WholePart

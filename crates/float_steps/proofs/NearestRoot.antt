@@ -225,6 +225,3 @@ module _ (m b : ℕ) (lo : 0x80_0000 ≤ m) (hi : m < 0x100_0000) where
 
       small : (z : ℕ) → z < 382 → z / 2 - 2 ≤ 199
       small z f = omega arith
-
-  pub root_small : (r : ℕ) → IsRoot r (radicand m b) → r < 0x1ff_ffff
-  root_small r is = sq_less r 0x1ff_ffff (lt_of_le_of_lt is.0 (lt_of_le_of_lt radicand_hi (lit< tt)))

@@ -1,13 +1,13 @@
 -- `floor_of` and `round_byte_of`, as the code works them out. Assumes nothing.
 use Rattle.std.proofs.Common.{◌≡◌, ℕ, zero, suc, ◌+◌, ◌*◌, ◌/◌, ◌^◌, ◌<◌, ◌≤◌, min, Bool, true, false, ◌&&◌, ◌||◌, T, eqb, ltb, ◌⊎◌, pos, sym, refl, ap, ◌∙◌, subst, inl, inr, true≢false, le_trans, le_of_eq, lt_of_lt_of_le, lt_of_le_of_lt, le_of_lt, mul-le-mul_right, mul_comm, div-lt_iff_lt-mul, mul-pos, lt_of_not-le, le-div_iff_mul-le, zero-mul, mul-one, arith, lit<, lit≤, le→leb, eqb→eq, ltb→lt, pow_pos, ltb-false, ltb-true, lt-ltb}
 use native.Mathlib.Nat.{div-div-eq-div-mul, add-mul-div_right}
-use lib.Ieee.{Float, nan, inf, fin, binary32, up, down, round, mul, lt, le, fits, to_unsigned, Format, prec, in_float}
+use lib.Ieee.{Float, nan, inf, fin, binary32, of_bits, up, down, neg, round, mul, lt, le, fits, to_unsigned, Format, prec, in_float}
 use lib.Ieee.Fits.{down_pos, and_l, and_r}
 use lib.Ieee.Exact.{HasValue}
 use lib.Ieee.Nearest.{div_same}
 use lib.Ieee.Positive.{num, den, positive, den_pos, mul_at, cross→le}
 use Rattle.float_steps.specs.Whole.{floor_of, round_byte_of}
-use Rattle.float_steps.proofs.Choice.{never}
+use Rattle.float_steps.proofs.Choice.{told, never}
 use Rattle.float_steps.proofs.Number.{held, round_scaled}
 
 -- ---- a whole number that a format counts without a gap
@@ -17,10 +17,19 @@ in_float_lem f n h = le→leb n (2 ^ prec f) h
 
 -- ---- `floor_of`
 abbrev minus_one : Float
-minus_one = fin true 1 (pos 0)
+minus_one = neg (of_bits binary32 0x3f80_0000)
 
 abbrev past : Float
-past = fin false 1 (pos 64)
+past = of_bits binary32 0x5f80_0000
+
+-- what the cut asks
+pub cut_low : (v : Float) → lt minus_one v ≡ true → T (lt (fin true 1 (pos 0)) v)
+unfolding of_bits neg
+cut_low v h = told h
+
+pub cut_high : (v : Float) → lt v past ≡ true → T (lt v (fin false 1 (pos 64)))
+unfolding of_bits
+cut_high v h = told h
 
 pub floor_cut : (v : Float) → to_unsigned 64 v ≡ floor_of v
 unfolding to_unsigned floor_of
@@ -38,7 +47,7 @@ capped : (a c : ℕ) → c < a → c ≡ min a c
 capped a c h = omega arith
 
 pub floor_high : (v : Float) → lt minus_one v ≡ true → lt v past ≡ false → 0xffff_ffff_ffff_ffff ≡ floor_of v
-unfolding lt floor_of
+unfolding lt floor_of of_bits neg
 floor_high nan p q = never p
 floor_high (inf true) p q = never p
 floor_high (inf false) p q = refl
@@ -47,7 +56,7 @@ floor_high (fin false m e) p q =
     capped (m * up e / down e) 0xffff_ffff_ffff_ffff ((le-div_iff_mul-le (down_pos e)).1 (le_trans (ltb-false (m * up e * 1) (2 ^ 64 * down e) q) (le_of_eq (mul-one (m * up e)))))
 
 pub floor_low : (v : Float) → lt minus_one v ≡ false → 0 ≡ floor_of v
-unfolding lt floor_of
+unfolding lt floor_of of_bits neg
 floor_low nan p = refl
 floor_low (inf true) p = refl
 floor_low (inf false) p = never (sym p)
@@ -67,12 +76,13 @@ floor_value (fin false m e) a c C h l = ap (λ (z : ℕ). min z 0xffff_ffff_ffff
 
 -- ---- twice a value is exact
 abbrev two : Float
-two = fin false 1 (pos 1)
+two = of_bits binary32 0x4000_0000
 
 doubled : (a d : ℕ) → a < 255 * d → a * 2 < 510 * d
 doubled a d h = omega arith
 
 pub twice_value : (x : Float) → T (fits binary32 x) → T (positive x) → num x < 255 * den x → HasValue (mul binary32 x two) false (num x * 2) (den x)
+unfolding of_bits
 twice_value nan f p h = absurd p
 twice_value (inf s) f p h = absurd p
 twice_value (fin true m e) f p h = absurd p
@@ -83,10 +93,10 @@ twice_value (fin false m e) f p h =
 
 -- ---- `round_byte_of`
 abbrev c255 : Float
-c255 = fin false 255 (pos 0)
+c255 = of_bits binary32 0x437f_0000
 
 abbrev nought : Float
-nought = fin false 0 (pos 0)
+nought = of_bits binary32 0
 
 at_least : (a d : ℕ) → 0 < d → 255 * d ≤ a → 255 ≡ min ((2 * a + d) / (2 * d)) 255
 at_least a d D h = go ((2 * a + d) / (2 * d)) ((le-div_iff_mul-le (mul-pos (lit< tt) D)).1 (enough a d h))
@@ -107,7 +117,7 @@ at_nought a d D h = go ((2 * a + d) / (2 * d)) ((div-lt_iff_lt-mul (mul-pos (lit
     little x y p g = omega arith
 
 pub byte_high : (x : Float) → le c255 x ≡ true → 255 ≡ round_byte_of x
-unfolding le round_byte_of
+unfolding le round_byte_of of_bits
 byte_high nan h = never h
 byte_high (inf true) h = never h
 byte_high (inf false) h = refl
@@ -125,7 +135,7 @@ byte_high (fin false m e) h = at_least (m * up e) (down e) (down_pos e) (le_tran
     le_of a b t = elim (or_split (ltb a b) (eqb a b && true) t) [ inl u ↦ le_of_lt (ltb→lt a b u) | inr u ↦ le_of_eq (eqb→eq a b (and_l (eqb a b) true u)) ]
 
 pub byte_nought : (x : Float) → lt nought x ≡ false → 0 ≡ round_byte_of x
-unfolding lt round_byte_of
+unfolding lt round_byte_of of_bits
 byte_nought nan h = refl
 byte_nought (inf true) h = refl
 byte_nought (inf false) h = never (sym h)
@@ -140,7 +150,7 @@ first_pos zero u h = absurd (none h)
 first_pos (suc n) u h = omega arith
 
 pub mid_positive : (x : Float) → lt nought x ≡ true → le c255 x ≡ false → T (positive x)
-unfolding lt le
+unfolding lt le of_bits
 mid_positive nan h k = never h
 mid_positive (inf true) h k = never h
 mid_positive (inf false) h k = never (sym k)
@@ -148,6 +158,7 @@ mid_positive (fin true m e) h k = never h
 mid_positive (fin false m e) h k = subst T (sym (lt-ltb 0 m (first_pos m (up e) (lt_of_le_of_lt (le_of_eq (sym (zero-mul (down e)))) (ltb-true (0 * down e) (m * up e * 1) h))))) tt
 
 pub mid_below : (x : Float) → T (positive x) → le c255 x ≡ false → num x < 255 * den x
+unfolding of_bits
 mid_below x p k = lt_of_not-le (λ (g : 255 * den x ≤ num x). true≢false (is_true' (le c255 x) (cross→le c255 x tt p (le_trans g (le_of_eq (sym (mul-one (num x)))))) k))
   where
     is_true' : (b : Bool) → T b → b ≡ false → true ≡ false

@@ -1,5 +1,5 @@
 -- Whole-number square roots: r is `root_of n` exactly when r * r ≤ n < (r + 1) * (r + 1). Assumes nothing.
-use Rattle.std.proofs.Common.{◌≡◌, ℕ, zero, suc, ◌+◌, ◌*◌, ◌/◌, ◌^◌, ◌<◌, ◌≤◌, Bool, true, false, cond, not, T, leb, sym, ap, ◌∙◌, subst, le_trans, le_of_eq, lt_of_lt_of_le, lt_of_le_of_lt, mul_assoc, mul-le-mul, le_antisymm, lt_of_not-le, not-le_of_lt, mul_left_comm, arith, lit<, leb→le}
+use Rattle.std.proofs.Common.{◌≡◌, ℕ, zero, suc, ◌+◌, ◌*◌, ◌/◌, ◌^◌, ◌<◌, ◌≤◌, Bool, true, false, cond, not, T, leb, sym, ap, ◌∙◌, subst, le_trans, le_of_eq, lt_of_lt_of_le, lt_of_le_of_lt, mul_assoc, mul-le-mul, le_antisymm, lt_of_not-le, not-le_of_lt, mul_left_comm, arith, leb→le}
 use native.Mathlib.Nat.{pow-succ'}
 use lib.Dec.{nleb→lt}
 use lib.Ieee.{size}
@@ -8,10 +8,6 @@ use Rattle.float_steps.specs.Root.{IsRoot, grown, root_by, root_of}
 
 pub sq_mono : {a b : ℕ} → a ≤ b → a * a ≤ b * b
 sq_mono h = mul-le-mul h h
-
--- the squares that 64 digits hold
-pub square_below : (x : ℕ) → x ≤ 0xffff_ffff → x * x < 2 ^ 64
-square_below x h = lt_of_le_of_lt (sq_mono h) (lit< tt)
 
 -- a square that is smaller is a smaller number's
 pub sq_less : (a b : ℕ) → a * a < b * b → a < b

@@ -9,9 +9,31 @@ use Rattle.float_steps.specs.Root.{sqrt_of}
 use Rattle.float_steps.specs.Sign.{abs_of, square_of}
 use Rattle.float_steps.specs.Whole.{floor_of, byte_of}
 use Rattle.float_steps.specs.Words.{value_of, word_of}
-use Rattle.vector_lines.specs.declared.numbers.Unsigned.{Unsigned}
+use Rattle.vector_lines.specs.declared.numbers.Read.{Read}
 use Rattle.vector_lines.specs.Numbers.{nowhere, number_at, expected_at}
 use Rattle.verdicts.specs.Lines.{first_of}
+use Rattle.float_vectors.specs.declared.steps.Step.{Step}
+use Rattle.float_vectors.specs.declared.steps.Step.TheVariants.{Word, Smaller, Larger, Clamp, Unit, Finite, Rem, RemEuclid, Wrap, Sqrt, Abs, Square, Floor, Byte, AxisAt, AxisNext, AxisAlong}
+
+-- a step's place among the steps: how far its letter is from a
+abbrev pub number_of : Step → ℕ
+number_of Word = 0
+number_of Smaller = 1
+number_of Larger = 2
+number_of Clamp = 3
+number_of Unit = 4
+number_of Finite = 5
+number_of Rem = 6
+number_of RemEuclid = 7
+number_of Wrap = 8
+number_of Sqrt = 9
+number_of Abs = 10
+number_of Square = 11
+number_of Floor = 12
+number_of Byte = 13
+number_of AxisAt = 14
+number_of AxisNext = 15
+number_of AxisAlong = 16
 
 -- the steps in the order of their letters, a to q: each result is a word, a whole number, or 1 for true
 unfoldable pub steps_of : (a b c : Float) → (side : ℕ) → List ℕ
@@ -44,16 +66,16 @@ unfoldable pub given_of : (step a b c : ℕ) → ℕ
 given_of step a b c = get_or (steps_of (value_of a) (value_of b) (value_of c) (side_of b)) step 0
 
 -- STEP a b c: result, and the place after it, if it is what the step gives
-abbrev pub operand_at : List ℕ → ℕ → Unsigned
+abbrev pub operand_at : List ℕ → ℕ → Read ℕ
 operand_at = number_at 4294967295
 
-unfoldable pub result_at : List ℕ → (a b c : Unsigned) → ℕ
+unfoldable pub result_at : List ℕ → (a b c : Read ℕ) → ℕ
 result_at row a b c = expected_at row c.next (given_of (first_of row - 97) a.value b.value c.value)
 
-unfoldable pub third_at : List ℕ → (a b : Unsigned) → ℕ
+unfoldable pub third_at : List ℕ → (a b : Read ℕ) → ℕ
 third_at row a b = result_at row a b (operand_at row b.next)
 
-unfoldable pub second_at : List ℕ → (a : Unsigned) → ℕ
+unfoldable pub second_at : List ℕ → (a : Read ℕ) → ℕ
 second_at row a = third_at row a (operand_at row a.next)
 
 unfoldable pub taken_at : List ℕ → ℕ

@@ -1,69 +1,57 @@
 // The rows of a text: a step's letter, three operands as words (the second is a side, for a coordinate) and the result.
-ghost use Rattle.std.specs.Prelude.{◌≡◌};
-ghost use Rattle.lent.specs.Lent.{before, after};
-ghost use Rattle.verdicts.specs.Lines.{lines_of, counts_found, counts_left, lines_counted, places_of};
+ghost use Rattle.std.specs.Prelude.{◌≡◌, None, replicate};
+ghost use Rattle.verdicts.specs.Lines.{lines_of, counts, lines_counted, answer, places_of};
 ghost use Rattle.float_vectors.specs.Steps.{taken_at};
 
-use crate::steps::given;
+use crate::steps::Step;
 use vector_lines::{NOWHERE, expect, number_up_to};
-use verdicts::{asked, count_lines, first, line_end, put_place};
+use verdicts::{Answering, Tally, first};
 
 // The largest word.
 const WORD: u64 = 0xffff_ffff;
+
+// How many rows are taken; those after them count as not taken.
+const MOST: usize = 0x1000;
 
 // The place after a row's result, or NOWHERE where the row is malformed or its step gives another.
 #[tactic(auto, unfolding(crate::specs::Steps::taken_at, crate::specs::Steps::second_at, crate::specs::Steps::third_at, crate::specs::Steps::result_at))]
 fn taken(row: &[u8]) -> usize
     ensures { result ≡ taken_at row.now }
 {
-    let letter = first(row);
-    if letter < b'a' {
+    let Some(step) = Step::from_letter(first(row)) else {
         return NOWHERE;
-    }
-    if letter > b'q' {
-        return NOWHERE;
-    }
+    };
     let a = number_up_to(row, 1, WORD);
     let b = number_up_to(row, a.next, WORD);
     let c = number_up_to(row, b.next, WORD);
-    let due = given(
-        (letter - b'a') as u64,
-        a.value as u32,
-        b.value as u32,
-        c.value as u32,
-    );
-    expect(row, c.next, due)
+    expect(
+        row,
+        c.next,
+        step.given(a.value as u32, b.value as u32, c.value as u32),
+    )
 }
 
-// Runs the step of each row, and keeps where its answer ends.
-#[tactic(auto, using(verdicts::proofs::Splitting::none_replayed, verdicts::proofs::Splitting::all_replayed))]
-fn replay(text: &[u8], places: &mut [usize])
-    ensures { after places ≡ places_of taken_at 0 (lines_of text.now) (before places) }
-{
-    let mut i: usize = 0;
-    let mut from: usize = 0;
-    while from < text.len() {
-        let end = line_end(text, from);
-        let place = taken(asked(&text[from..end]));
-        put_place(places, i, place);
-        i += 1;
-        from = end + 1;
+// Runs the step of each row.
+#[derive(Clone, Copy)]
+struct Steps;
+
+impl Answering for Steps {
+    type Kept = ();
+
+    ghost kept = { λ _. tt };
+
+    ghost answered = { λ row k. answer (taken_at row) k };
+
+    fn answer(&mut self, asked: &[u8]) -> usize {
+        taken(asked)
     }
 }
 
 // Runs the step of each row of a text and counts the rows that are right and those that are wrong, by their steps' letters; the number of the first that is
-// wrong, 0 where none is.
-#[tactic(auto, using(verdicts::proofs::Splitting::judged))]
-pub fn judge(
-    text: &[u8],
-    places: &mut [usize],
-    kinds: &[u8],
-    right: &mut [u64],
-    wrong: &mut [u64],
-) -> u64
-    ensures { let rows = lines_of text.now in counts_left right wrong result
-        ≡ lines_counted kinds.now (places_of taken_at 0 rows (before places)) 0 rows (counts_found right wrong 0) }
+// wrong.
+pub fn judge(text: &[u8], kinds: &[u8], tallies: &mut [Tally]) -> Option<u64>
+    ensures { let rows = lines_of text.now in counts tallies.new result
+        ≡ lines_counted kinds.now (places_of taken_at 0 rows (replicate MOST 0)) 0 rows (counts tallies.old None) }
 {
-    replay(text, places);
-    count_lines(text, places, kinds, right, wrong)
+    verdicts::judge(text, MOST, kinds, &mut Steps, tallies)
 }

@@ -1,31 +1,31 @@
-// What each float step gives, by its number.
-ghost use Rattle.std.specs.Prelude.{cond, ◌≡◌, ◌<◌, ◌≤◌, get_or};
-ghost use Rattle.float_steps.specs.Axis.{axis_of};
-ghost use Rattle.float_steps.specs.Words.{word_of};
-ghost use Rattle.float_vectors.specs.Steps.{side_of, steps_of, given_of};
+// The float steps, each by its letter, and what each gives.
+ghost use Rattle.std.specs.Prelude.{◌≡◌, ◌+◌, ◌<◌, ◌≤◌, ◌⊎◌, MatchOption, get_or};
+ghost use Rattle.float_vectors.specs.Steps.{number_of, side_of, steps_of, given_of};
 
 use float_steps::words::{value, word};
 use float_steps::{axis, order, remainder, root, sign, whole};
+use std::fmt;
 
-fn wide(v: f32) -> u64
-    ensures { result ≡ word_of v }
-{
-    word(v) as u64
-}
-
-fn bit(is_true: bool) -> u64
-    ensures { result ≡ cond is_true 1 0 }
-{
-    if is_true {
-        return 1;
-    }
-    0
-}
-
-fn byte(v: u8) -> u64
-    ensures { result ≡ v }
-{
-    v as u64
+// In the order of their letters, a to q.
+#[derive(Clone, Copy, Debug, PartialEq, Eq)]
+pub enum Step {
+    Word,
+    Smaller,
+    Larger,
+    Clamp,
+    Unit,
+    Finite,
+    Rem,
+    RemEuclid,
+    Wrap,
+    Sqrt,
+    Abs,
+    Square,
+    Floor,
+    Byte,
+    AxisAt,
+    AxisNext,
+    AxisAlong,
 }
 
 // The side of an axis: `locate` is asked for 1 to 2^24.
@@ -34,69 +34,96 @@ fn side_of(b: u32) -> usize
     ensures { (result ≡ side_of b) × (1 ≤ result) × (result ≤ 0x100_0000) }
 {
     if b < 1 {
-        return 1;
-    }
-    if 0x100_0000 < b {
-        return 0x100_0000;
-    }
-    b as usize
-}
-
-// The pixel of a coordinate, the next one, and how far along it is.
-fn pixel(x: f32, side: usize) -> u64
-    requires { (1 ≤ side) × (side ≤ 0x100_0000) }
-    ensures { result ≡ (axis_of x side).at }
-{
-    let found = axis::locate(x, side);
-    found.at as u64
-}
-
-fn next_pixel(x: f32, side: usize) -> u64
-    requires { (1 ≤ side) × (side ≤ 0x100_0000) }
-    ensures { result ≡ (axis_of x side).next }
-{
-    let found = axis::locate(x, side);
-    found.next as u64
-}
-
-fn along(x: f32, side: usize) -> u64
-    requires { (1 ≤ side) × (side ≤ 0x100_0000) }
-    ensures { result ≡ word_of (axis_of x side).along }
-{
-    let found = axis::locate(x, side);
-    wide(found.along)
-}
-
-#[tactic(auto, unfolding(crate::specs::Steps::steps_of))]
-fn step_of(step: u64, a: f32, b: f32, c: f32, side: usize) -> u64
-    requires { (step < 17) × (1 ≤ side) × (side ≤ 0x100_0000) }
-    ensures { result ≡ get_or (steps_of a b c side) step 0 }
-{
-    match step {
-        0 => wide(a),
-        1 => wide(order::smaller(a, b)),
-        2 => wide(order::larger(a, b)),
-        3 => wide(order::clamp(a, b, c)),
-        4 => wide(order::unit(a)),
-        5 => bit(order::finite(a)),
-        6 => wide(remainder::rem(a, b)),
-        7 => wide(remainder::rem_euclid(a, b)),
-        8 => wide(remainder::wrap(a)),
-        9 => wide(root::sqrt(a)),
-        10 => wide(sign::abs(a)),
-        11 => wide(sign::square(a)),
-        12 => whole::floor(a),
-        13 => byte(whole::byte(a)),
-        14 => pixel(a, side),
-        15 => next_pixel(a, side),
-        _ => along(a, side),
+        1
+    } else if 0x100_0000 < b {
+        0x100_0000
+    } else {
+        b as usize
     }
 }
 
-#[tactic(auto, unfolding(crate::specs::Steps::given_of))]
-pub fn given(step: u64, a: u32, b: u32, c: u32) -> u64
-    requires { step < 17 }
-    ensures { result ≡ given_of step a b c }
-{
-    step_of(step, value(a), value(b), value(c), side_of(b))
+impl Step {
+    pub fn from_letter(letter: u8) -> Option<Step>
+        ensures { MatchOption result ((letter < 97) ⊎ (113 < letter)) (λ s. letter ≡ 97 + number_of s) }
+    {
+        match letter {
+            b'a' => Some(Step::Word),
+            b'b' => Some(Step::Smaller),
+            b'c' => Some(Step::Larger),
+            b'd' => Some(Step::Clamp),
+            b'e' => Some(Step::Unit),
+            b'f' => Some(Step::Finite),
+            b'g' => Some(Step::Rem),
+            b'h' => Some(Step::RemEuclid),
+            b'i' => Some(Step::Wrap),
+            b'j' => Some(Step::Sqrt),
+            b'k' => Some(Step::Abs),
+            b'l' => Some(Step::Square),
+            b'm' => Some(Step::Floor),
+            b'n' => Some(Step::Byte),
+            b'o' => Some(Step::AxisAt),
+            b'p' => Some(Step::AxisNext),
+            b'q' => Some(Step::AxisAlong),
+            _ => None,
+        }
+    }
+
+    // What the step gives: a word, a whole number, or 1 for true.
+    #[tactic(auto, unfolding(crate::specs::Steps::steps_of))]
+    fn result(self, a: f32, b: f32, c: f32, side: usize) -> u64
+        requires { (1 ≤ side) × (side ≤ 0x100_0000) }
+        ensures { result ≡ get_or (steps_of a b c side) (number_of self) 0 }
+    {
+        match self {
+            Step::Word => u64::from(word(a)),
+            Step::Smaller => u64::from(word(order::smaller(a, b))),
+            Step::Larger => u64::from(word(order::larger(a, b))),
+            Step::Clamp => u64::from(word(order::clamp(a, b, c))),
+            Step::Unit => u64::from(word(order::unit(a))),
+            Step::Finite => u64::from(order::finite(a)),
+            Step::Rem => u64::from(word(remainder::rem(a, b))),
+            Step::RemEuclid => u64::from(word(remainder::rem_euclid(a, b))),
+            Step::Wrap => u64::from(word(remainder::wrap(a))),
+            Step::Sqrt => u64::from(word(root::sqrt(a))),
+            Step::Abs => u64::from(word(sign::abs(a))),
+            Step::Square => u64::from(word(sign::square(a))),
+            Step::Floor => whole::floor(a),
+            Step::Byte => u64::from(whole::byte(a)),
+            Step::AxisAt => axis::locate(a, side).at as u64,
+            Step::AxisNext => axis::locate(a, side).next as u64,
+            Step::AxisAlong => u64::from(word(axis::locate(a, side).along)),
+        }
+    }
+
+    // What the step gives of words; the second is also the side.
+    #[tactic(auto, unfolding(crate::specs::Steps::given_of))]
+    pub fn given(self, a: u32, b: u32, c: u32) -> u64
+        ensures { result ≡ given_of (number_of self) a b c }
+    {
+        self.result(value(a), value(b), value(c), side_of(b))
+    }
+}
+
+impl fmt::Display for Step {
+    fn fmt<W: fmt::Write>(&self, f: &mut fmt::Formatter<W>) -> fmt::Result {
+        f.write_str(match *self {
+            Step::Word => "word of value",
+            Step::Smaller => "smaller",
+            Step::Larger => "larger",
+            Step::Clamp => "clamp",
+            Step::Unit => "unit",
+            Step::Finite => "finite",
+            Step::Rem => "rem",
+            Step::RemEuclid => "rem_euclid",
+            Step::Wrap => "wrap",
+            Step::Sqrt => "sqrt",
+            Step::Abs => "abs",
+            Step::Square => "square",
+            Step::Floor => "floor",
+            Step::Byte => "byte",
+            Step::AxisAt => "axis at",
+            Step::AxisNext => "axis next",
+            Step::AxisAlong => "axis along",
+        })
+    }
 }

@@ -10,15 +10,12 @@ use lib.Dec.{eqb, ltb}
 use lib.ListN.{length, get_or}
 use borrow.Author.Tests.{eq-eqb, ne_eqb, eqb-true, ltb-false, le-ltb}
 use Rattle.places.specs.Bounds.{slack}
-use Rattle.layers.specs.declared.Verdict.{Verdict}
-use Rattle.pictures.specs.Shapes.{nat_of}
-use Rattle.layers.specs.Inputs.{Inputs, verdict, job_fault}
+use Rattle.layers.specs.Inputs.{Inputs, Verdict, verdict, job_fault}
 use Rattle.layers.proofs.Accepted.{accepted, destination}
-use Rattle.job.specs.declared.Extent.{Extent}
 use Rattle.job.specs.Memory.{Mem, position_of, job_number_of}
 use Rattle.job.specs.Job.{pixel_count, layer_count, phase_at, pixel_at, end_of, memory_fault, call_fault, acceptance, refusal}
 use Rattle.job.specs.Call.{made_of, outcome, accepted_of, call_of}
-use Rattle.job.specs.Steps.{Ran, batch_by}
+use Rattle.job.specs.Steps.{Ran}
 use Rattle.job.specs.Uses.{Sized, Batch, batch_of, Midway}
 
 -- ---- the faults
@@ -29,10 +26,9 @@ module _ (i : Inputs) (job : ℕ) (m : Mem) {v : Verdict} (found : v ≡ job_fau
   unfolding call_fault
   inputs_fault h = rw (← found, ne_eqb v.number 0 h)
 
-  pub memory_fault_lem : {f w h n : ℕ} → v.number ≡ 0 → w ≡ nat_of i.shape.width → h ≡ nat_of i.shape.height → n ≡ nat_of i.count
-      → f ≡ memory_fault (w * h) ((n + 1) * (w * h)) job m → verdict f 0 ≡ call_fault i job m
+  pub memory_fault_lem : {f : ℕ} → v.number ≡ 0 → f ≡ memory_fault (pixel_count i) (end_of i) job m → verdict f 0 ≡ call_fault i job m
   unfolding call_fault
-  memory_fault_lem e ew eh en g = rw (← found, eq-eqb v.number 0 e, g, ew, eh, en)
+  memory_fault_lem e g = rw (← found, eq-eqb v.number 0 e, g)
 
 -- no fault of a call is none of its inputs and none of its memory
 neither : (v : Verdict) (f : ℕ) → (cond (eqb v.number 0) (verdict f 0) v).number ≡ 0 → (v.number ≡ 0) × (f ≡ 0)
@@ -85,22 +81,19 @@ module _ (i : Inputs) (p : ℕ) (room : p < end_of i) where
   pub pixel_within : pixel_at i p < pixel_count i
   pixel_within = mod-lt p some_pixel
 
--- bounds of a job's sides and layers; a thousand layers would still fit
-pub record Bounded (w h n : ℕ) : Type 0 where
-  pub pixels : w * h ≤ slack * slack
-  pub layers : n + 1 ≤ 1024
-  pub end : (n + 1) * (w * h) ≤ 1024 * (slack * slack)
+-- bounds of a job's pixels and layers; a thousand layers would still fit
+pub record Bounded (i : Inputs) : Type 0 where
+  pub pixels : pixel_count i ≤ slack * slack
+  pub layers : layer_count i + 1 ≤ 1024
+  pub end : end_of i ≤ 1024 * (slack * slack)
 
-pub bounded : (i : Inputs) → (job_fault i).number ≡ 0 → {w h n : ℕ} → w ≡ nat_of i.shape.width → h ≡ nat_of i.shape.height → n ≡ nat_of i.count → Bounded w h n
-bounded i e ew eh en =
+pub bounded : (i : Inputs) → (job_fault i).number ≡ 0 → Bounded i
+bounded i e =
     let a = accepted i e in
     let d = destination i a in
     let pixels : pixel_count i ≤ slack * slack = mul-le-mul d.width d.height in
     let layers : layer_count i + 1 ≤ 1024 = omega (arith, a.count.most) in
-    rw (ew, eh, en) record { pixels = pixels; layers = layers; end = mul-le-mul layers pixels }
-
-pub end_is : (i : Inputs) {w h n : ℕ} → w ≡ nat_of i.shape.width → h ≡ nat_of i.shape.height → n ≡ nat_of i.count → (n + 1) * (w * h) ≡ end_of i
-end_is i ew eh en = rw (ew, eh, en)
+    record { pixels = pixels; layers = layers; end = mul-le-mul layers pixels }
 
 -- ---- a call without a fault
 
@@ -120,16 +113,12 @@ module _ (i : Inputs) (job : ℕ) (m : Mem) (e : (call_fault i job m).number ≡
   pub two_numbers : m.checkpoint ≡ position_of m ∷ job ∷ []
   two_numbers = two m.checkpoint (memory_none i job m none.1).0.checkpoint ∙ rw call_number
 
--- under the checkpoint's own number
-module _ (i : Inputs) (m : Mem) (e : (call_fault i (job_number_of m) m).number ≡ 0) where
   pub call_inputs : (job_fault i).number ≡ 0
-  call_inputs = (none i _ m e).0
+  call_inputs = none.0
 
   -- it has made none of its writes
   pub call_midway : (allowance : ℕ) → Midway (batch_of i allowance m) 0 m
-  call_midway allowance =
-      let h = memory_none i _ m (none i _ m e).1 in
-      omega (arith, call_inputs)
+  call_midway allowance = let h = memory_none i job m none.1 in omega (arith, call_inputs)
 
 -- a call under the checkpoint's number has no fault on what another leaves
 pub midway_call : {b : Batch} {uses : ℕ} {m : Mem} → Midway b uses m → uses ≤ b.due → (call_fault b.inputs (job_number_of m) m).number ≡ 0
@@ -138,22 +127,13 @@ midway_call {b} {uses} {m} h l =
     let w : position_of m ≤ end_of b.inputs = omega arith in
     search (eq-eqb, le-ltb)
 
--- its writes, from the natural numbers of its inputs
-pub batch_is : (i : Inputs) (allowance : ℕ) (m : Mem) → (job_fault i).number ≡ 0 → (e : Extent)
-    → e.width ≡ nat_of i.shape.width → e.height ≡ nat_of i.shape.height → e.channels ≡ nat_of i.shape.channels → e.layers ≡ nat_of i.count
-    → e.start ≡ position_of m → e.due ≡ made_of i allowance m
-    → batch_by e i.dst i.table i.args i.samples ≡ batch_of i allowance m
-batch_is i n m f e ew eh ec el es ed =
-    let a = accepted i f in
-    rw (ew, eh, ec, el, es, ed, ← a.shape.wide.natural, ← a.shape.high.natural, ← a.shape.deep.natural, ← a.count.natural)
-
 -- ---- the outcome
 
 module _ (i : Inputs) (allowance : ℕ) (m : Mem) where
-  pub call_accepted : {b : Batch} {uses : ℕ} {m' : Mem} → b ≡ batch_of i allowance m → Ran b 0 b.due uses m m'
-      → outcome m' (acceptance uses (eqb (position_of m') (end_of i))) ≡ accepted_of i allowance m
+  pub call_accepted : {uses end : ℕ} {m' : Mem} → end ≡ end_of i → Ran (batch_of i allowance m) 0 (made_of i allowance m) uses m m'
+      → outcome m' (acceptance uses (eqb (position_of m') end)) ≡ accepted_of i allowance m
   unfolding accepted_of
-  call_accepted s f = rw (f.memory, f.count, s, add-zero, zero-add)
+  call_accepted e f = rw (e, f.memory, f.count, add-zero, zero-add)
 
   pub call_refused : (job : ℕ) {v : Verdict} → v ≡ call_fault i job m → (v.number ≡ 0 → ⊥) → outcome m (refusal v) ≡ call_of i job allowance m
   unfolding call_of

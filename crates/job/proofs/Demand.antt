@@ -61,7 +61,7 @@ module _ (i : Inputs) (n : ℕ) (m : Mem) (v : Progress i m) where
   call_is = rw (← (call_made i n m _ v.fit), left_is, length-take, left_length)
 
   left_midway : Midway (batch_of i n m) (made_of i n m) after
-  left_midway = rw left_is at (start_midway (call_midway i m v.fit n) (made_of i n m))
+  left_midway = rw left_is at (start_midway (call_midway i _ m v.fit n) (made_of i n m))
 
   -- it has gained floor(made / 5) pixels
   gained : position_of after ≡ min (position_of m + n / 5) (end_of i)
@@ -112,7 +112,7 @@ module _ (i : Inputs) (m : Mem) (v : Progress i m) where
   finished_is : let k = layer_count i in position_of m ≡ end_of i → work_of k m ≡ picture_of i k
   finished_is e =
       let k = layer_count i in
-      let l = work_length i m k (call_midway i m v.fit 0).sized in
+      let l = work_length i m k (call_midway i _ m v.fit 0).sized in
       let s : position_of m ≡ suc k * pixel_count i + 0 = e ∙ rw (add-one, add-zero) in
       ⊎_elim
       (λ z. ext_get_or 0 _ _ (l ∙ sym (picture_length i k)) (λ x h. absurd (omega arith)))

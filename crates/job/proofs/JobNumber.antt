@@ -17,20 +17,18 @@ use lib.ListN.{length, get_or, drop}
 use lib.Seq.{take_all}
 use borrow.Author.Tests.{eq-eqb, ne_eqb, eqb-true, le-ltb}
 use Rattle.faults.specs.Faults.{NONE, WORK, MARK, JOB_NUMBER}
-use Rattle.layers.specs.declared.Verdict.{Verdict}
-use Rattle.layers.specs.Inputs.{Inputs, verdict, job_fault}
-use Rattle.job.specs.declared.Answer.{Answer}
+use Rattle.layers.specs.Inputs.{Inputs, Verdict, verdict, job_fault}
 use Rattle.job.specs.declared.Write.{Write}
 use Rattle.job.specs.declared.Write.TheVariants.{Work0, Work1, Checkpoint}
 use Rattle.job.specs.Memory.{Mem, position_of, job_number_of, put}
-use Rattle.job.specs.Job.{pixel_count, phase_at, pixel_at, end_of, memory_fault, call_fault, refusal}
+use Rattle.job.specs.Job.{pixel_count, phase_at, pixel_at, end_of, memory_fault, call_fault, Answer, refusal}
 use Rattle.job.specs.Call.{phase_pixel, write_at, run_of, made_of, Outcome, outcome, accepted_of, call_of}
 use Rattle.job.specs.Loans.{Loan, of_work0, of_work1, of_checkpoint, lent}
 use Rattle.job.specs.Model.{Call, allowed, cut, refused}
 use Rattle.job.specs.Demand.{program_of, history, memory_after, FairCall, Demand3}
 use Rattle.job.specs.Uses.{Sized}
 use Rattle.job.specs.Unnumbered.{unnumbered_memory_fault, unnumbered_fault, unnumbered_of, unnumbered_program, without_number, seen_without, OwnCall, Own}
-use Rattle.job.proofs.Checked.{call_number, own_number, two_numbers, call_midway, call_refused}
+use Rattle.job.proofs.Checked.{call_number, two_numbers, call_midway, call_refused}
 use Rattle.job.proofs.Runs.{put_kept}
 
 -- ---- what no call changes
@@ -120,7 +118,7 @@ whole i = record { work0 = of_work0 0 (4 * pixel_count i); work1 = of_work1 0 (4
 -- at a checkpoint of the job, at any position up to its end, a call with the job's inputs and memory
 module _ (i : Inputs) (job : ℕ) (m : Mem) (fit : (call_fault i job m).number ≡ NONE) where
   sized : Sized i m
-  sized = (call_midway i m (own_number i job m fit) 0).sized
+  sized = (call_midway i job m fit 0).sized
 
   whole_lent : lent (whole i) m ≡ m
   whole_lent =
@@ -133,7 +131,7 @@ module _ (i : Inputs) (job : ℕ) (m : Mem) (fit : (call_fault i job m).number �
     pub other_number : call_fault i other m ≡ verdict JOB_NUMBER 0
     unfolding call_fault memory_fault
     other_number =
-        let v = call_midway i m (own_number i job m fit) 0 in
+        let v = call_midway i job m fit 0 in
         let n : job_number_of m ≡ other → ⊥ = λ e. differs (sym e ∙ call_number i job m fit) in
         let w : position_of m ≤ end_of i = omega arith in
         let works = v.sized.works in

@@ -2,12 +2,11 @@
 -- nothing.
 use mathlib.Core.Path.{◌≡◌, refl, sym, ◌∙◌, ap}
 use mathlib.Core.List.{List, []}
-use mathlib.Core.Bool.{Bool, cond}
 use Prim.Native.Nat.{ℕ, ◌+◌, ◌*◌, ◌/◌, ◌%◌, ◌<◌, ◌≤◌, zero, suc, ◌-◌}
 use native.Mathlib.Nat.{add-zero, add_assoc, zero-add}
 use native.Mathlib.Omega.{arith}
 use lib.ListN.{length}
-use lib.Dec.{eqb}
+use borrow.Author.Tests.{eq-eqb, ne_eqb}
 use Rattle.places.specs.Bounds.{slack}
 use Rattle.layers.specs.declared.Layer.{Layer}
 use Rattle.pictures.specs.Shapes.{nat_of}
@@ -22,12 +21,21 @@ use Rattle.compose.specs.Plans.{plan_of, pixel_on}
 use Rattle.compose.specs.Ready.{Planned, Span}
 use Rattle.job.specs.declared.Part.{Part}
 use Rattle.job.specs.declared.Write.{Write}
-use Rattle.job.specs.Memory.{Mem, put, write_of, position_of, mem_of, work_in}
+use Rattle.job.specs.declared.Memory.{Memory}
+use Rattle.job.specs.Memory.{SameLists, Mem, put, write_of, position_of, mem_of, work_in}
 use Rattle.job.specs.Steps.{NextPart, Ran, pixels_of, Buffered}
 use Rattle.job.specs.Job.{pixel_count}
 use Rattle.job.specs.Call.{phase_pixel, run_of}
 use Rattle.job.specs.Uses.{NextUse, Batch, Midway}
 use Rattle.job.proofs.Runs.{InRange, write_range, write_is, run_split, run_midway, run_under, under_pixel}
+
+-- ---- the lists that are lent
+
+pub same_none : {m : Memory} → SameLists m m
+same_none = record { work0 = refl; work1 = refl; checkpoint = refl }
+
+pub same_on : {m m' m'' : Memory} → SameLists m m' → SameLists m' m'' → SameLists m m''
+same_on s t = record { work0 = t.work0 ∙ s.work0; work1 = t.work1 ∙ s.work1; checkpoint = t.checkpoint ∙ s.checkpoint }
 
 module _ {b : Batch} where
   -- ---- writes after writes
@@ -98,6 +106,13 @@ module _ {b : Batch} where
 
 -- ---- the buffer
 
+-- an even picture stands in work 0, an odd one in work 1
+pub work_even : (k : ℕ) (work0 work1 : List ℕ) → k % 2 ≡ 0 → work0 ≡ work_in k work0 work1
+work_even k work0 work1 e = rw (eq-eqb (k % 2) 0 e)
+
+pub work_odd : (k : ℕ) (work0 work1 : List ℕ) → (k % 2 ≡ 0 → ⊥) → work1 ≡ work_in k work0 work1
+work_odd k work0 work1 h = rw (ne_eqb (k % 2) 0 h)
+
 module _ (i : Inputs) (work0 work1 : List ℕ) (from n : ℕ) (out : List ℕ) where
   -- phase 0 widens the destination
   pub fill_first : {k : ℕ} → k ≡ 0
@@ -105,16 +120,16 @@ module _ (i : Inputs) (work0 work1 : List ℕ) (from n : ℕ) (out : List ℕ) w
   unfolding phase_pixel
   fill_first e = rw e
 
-  -- a later one composites its layer, decoded, on the picture beneath, which is in the work buffer that b says
-  pub fill_later : {k : ℕ} {l : Layer} {p : Plan} {source : List ℕ} {b : Bool} → (k ≡ 0 → ⊥) → l ≡ layer_at i.table i.args (k - 1)
-      → Planned l (nat_of i.shape.width) (nat_of i.shape.height) p → source ≡ source_of i.samples l.source → eqb ((k - 1) % 2) 0 ≡ b
-      → filled (λ x. pixel_on p source (rgba_at (cond b work0 work1) 4) (from + x)) n out
+  -- a later one composites its layer, decoded, on the picture beneath
+  pub fill_later : {k : ℕ} {l : Layer} {p : Plan} {source : List ℕ} → (k ≡ 0 → ⊥) → l ≡ layer_at i.table i.args (k - 1)
+      → Planned l (nat_of i.shape.width) (nat_of i.shape.height) p → source ≡ source_of i.samples l.source
+      → filled (λ x. pixel_on p source (rgba_at (work_in (k - 1) work0 work1) 4) (from + x)) n out
       ≡ filled (λ x. phase_pixel i (mem_of work0 work1 []) k (from + x)) n out
   unfolding phase_pixel
-  fill_later {k = zero} h el ep es eb = absurd (h refl)
-  fill_later {k = suc k} h el ep es eb =
+  fill_later {k = zero} h el ep es = absurd (h refl)
+  fill_later {k = suc k} h el ep es =
       let e : suc k - 1 ≡ k = omega arith in
-      simp (es, ← eb, e, ep.composes i.samples (rgba_at (work_in k work0 work1) 4)) (simp (el, e))
+      simp (es, e, ep.composes i.samples (rgba_at (work_in k work0 work1) 4)) (simp (el, e))
 
 -- the picture beneath, as the layer's plan asks for it
 pub plan_span : (l : Layer) {dw dh : ℕ} {p : Plan} {words from n : ℕ} → p ≡ plan_of l dw dh → dw ≤ slack → dh ≤ slack → words ≡ 4 * (dw * dh) → from + n ≤ dw * dh

@@ -219,7 +219,7 @@ module _ (i : Inputs) where
         let l : t < length left = omega (arith, left_length (position_of m)) in
         record {
           same = rw (write_next, g.same, take-suc left t (Checkpoint 0), stored_snoc, get_or-drop);
-          here = λ z. rw (add-suc, write_next) (entry_here s (omega arith) r (start_midway (call_midway i m v.fit 0) t).sized (g.here z));
+          here = λ z. rw (add-suc, write_next) (entry_here s (omega arith) r (start_midway (call_midway i _ m v.fit 0) t).sized (g.here z));
         }
 
   pub made : (m : Mem) (t : ℕ) → t ≤ 5 * (end_of i - position_of m) → Progress m → Made m t

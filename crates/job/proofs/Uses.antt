@@ -18,7 +18,7 @@ use Rattle.job.specs.Job.{end_of, call_fault}
 use Rattle.job.specs.Call.{write_at, run_of, accepted_of, call_of}
 use Rattle.job.specs.Uses.{Batch, batch_of, Midway, NextUse, UsesFrom}
 use Rattle.job.specs.Model.{write_sequence, entries_of}
-use Rattle.job.proofs.Checked.{own_number, call_midway, call_made}
+use Rattle.job.proofs.Checked.{call_midway, call_made}
 use Rattle.job.proofs.Parts.{ran_midway, use_ran}
 use Rattle.job.proofs.Sequence.{sequence_length, entry, Progress, write_next, made}
 
@@ -95,4 +95,4 @@ pub uses_can :
     (i : Inputs) (job : ℕ) (m : Mem) (allowance : ℕ)
     → (call_fault i job m).number ≡ NONE
     → let b = batch_of i allowance m in let ws = uses_of b 0 b.due m in UsesFrom b 0 m ws × (length ws ≡ b.due)
-uses_can i job m allowance e = can _ (call_midway i m (own_number i job m e) allowance) (omega arith)
+uses_can i job m allowance e = can _ (call_midway i job m e allowance) (omega arith)

@@ -7,9 +7,8 @@ use Rattle.layers.specs.Layers.{layer_at}
 use Rattle.pictures.specs.declared.Words.{Words}
 use Rattle.pictures.specs.Widen.{rgba_at}
 use Rattle.compose.specs.Compose.{composed_at}
-use Rattle.job.specs.declared.Answer.{Answer}
 use Rattle.job.specs.declared.Write.{Write}
-use Rattle.job.specs.Job.{phase_at, pixel_at, end_of, call_fault, acceptance, refusal}
+use Rattle.job.specs.Job.{phase_at, pixel_at, end_of, call_fault, Answer, acceptance, refusal}
 use Rattle.job.specs.Memory.{Mem, position_of, put, work_of, write_of}
 
 -- ---- the writes of an accepted call

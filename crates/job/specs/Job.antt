@@ -1,11 +1,12 @@
 -- A job by its inputs (document 01): its numbers, the checks of its memory, which come after those of its inputs, and its answers.
 -- Definitions only.
-use Rattle.std.specs.Prelude.{Bool, false, cond, ℕ, ◌+◌, ◌*◌, ◌/◌, ◌%◌, eqb, ltb, length}
+use Rattle.std.specs.Prelude.{Bool, false, cond, ℕ, ◌+◌, ◌*◌, ◌/◌, ◌%◌, eqb, ltb, length, Result, Ok, Err}
 use Rattle.faults.specs.Faults.{NONE, WORK, MARK, JOB_NUMBER}
-use Rattle.layers.specs.declared.Verdict.{Verdict}
+use Rattle.faults.specs.Numbers.{number_of}
+use Rattle.layers.specs.declared.Refusal.{Refusal}
 use Rattle.pictures.specs.Shapes.{nat_of}
-use Rattle.layers.specs.Inputs.{Inputs, verdict, job_fault}
-use Rattle.job.specs.declared.Answer.{Answer}
+use Rattle.layers.specs.Inputs.{Inputs, Verdict, verdict, job_fault}
+use Rattle.job.specs.declared.Progress.{Progress}
 use Rattle.job.specs.Memory.{Mem, position_of, job_number_of}
 
 -- ---- a job's numbers
@@ -46,8 +47,20 @@ call_fault i job m = cond (eqb (job_fault i).number NONE) (verdict (memory_fault
 
 -- ---- the answers
 
+-- the number of a call's first fault and that fault's layer, or 0 and 0; the writes that it made; whether the job is finished
+pub record Answer : Type 0 where
+  pub number : ℕ
+  pub layer : ℕ
+  pub stores : ℕ
+  pub finished : Bool
+
 abbrev pub acceptance : (stores : ℕ) → (finished : Bool) → Answer
 acceptance stores finished = record { number = NONE; layer = 0; stores = stores; finished = finished }
 
 abbrev pub refusal : Verdict → Answer
 refusal v = record { number = v.number; layer = v.layer; stores = 0; finished = false }
+
+-- the same of what the code answers
+abbrev pub answer_of : Result Progress Refusal → Answer
+answer_of (Ok p) = acceptance p.stores p.finished
+answer_of (Err r) = refusal (verdict (number_of r.fault) r.layer)

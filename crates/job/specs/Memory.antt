@@ -1,9 +1,9 @@
 -- The memory that a job is lent (document 01, "Stores and the mark"): two work buffers (document 01: work pictures) and a checkpoint (document 01:
 -- mark), a list with the job's position at index 0 and the job's number at index 1 (document 02, A.5). One write (document 01: a store) changes one
 -- number. Definitions only.
-use Rattle.std.specs.Prelude.{cond, List, [], ◌∷◌, ℕ, ◌+◌, ◌*◌, ◌%◌, eqb, get_or, set}
-use Rattle.lent.specs.Lent.{Lent, before, after}
+use Rattle.std.specs.Prelude.{◌≡◌, cond, List, [], ◌∷◌, ℕ, ◌+◌, ◌*◌, ◌%◌, eqb, get_or, set}
 use Rattle.pictures.specs.declared.Words.{Words}
+use Rattle.job.specs.declared.Memory.{Memory}
 use Rattle.job.specs.declared.Write.{Write}
 use Rattle.job.specs.declared.Write.TheVariants.{Work0, Work1, Checkpoint}
 
@@ -15,12 +15,15 @@ pub record Mem : Type 0 where
 abbrev pub mem_of : List ℕ → List ℕ → List ℕ → Mem
 mem_of work0 work1 checkpoint = record { work0 = work0; work1 = work1; checkpoint = checkpoint }
 
--- the memory that a function is lent, by its parameters, as an `ensures` names them: what it finds and what it leaves
-abbrev pub found : (work0 work1 checkpoint : Lent (List ℕ)) → Mem
-found work0 work1 checkpoint = mem_of (before work0) (before work1) (before checkpoint)
+-- the same as the code is lent it
+abbrev pub mem_in : Memory → Mem
+mem_in m = mem_of m.work0.now m.work1.now m.checkpoint.now
 
-abbrev pub left : (work0 work1 checkpoint : Lent (List ℕ)) → Mem
-left work0 work1 checkpoint = mem_of (after work0) (after work1) (after checkpoint)
+-- the lists are still those that were lent
+pub record SameLists (m m' : Memory) : Type 0 where
+  pub work0 : m'.work0.ghost_name ≡ m.work0.ghost_name
+  pub work1 : m'.work1.ghost_name ≡ m.work1.ghost_name
+  pub checkpoint : m'.checkpoint.ghost_name ≡ m.checkpoint.ghost_name
 
 -- the job's position: the pixels that it has written, over all pictures
 abbrev pub position_of : Mem → ℕ

@@ -7,10 +7,9 @@ use Rattle.layers.specs.Layers.{layer_at}
 use Rattle.pictures.specs.FlatWords.{flat}
 use Rattle.pictures.specs.Widen.{rgba_at}
 use Rattle.compose.specs.Compose.{composed_at}
-use Rattle.job.specs.declared.Answer.{Answer}
 use Rattle.job.specs.declared.Write.{Write}
 use Rattle.job.specs.Memory.{Mem, position_of, stored, five_writes}
-use Rattle.job.specs.Job.{pixel_count, layer_count, end_of, call_fault, acceptance, refusal}
+use Rattle.job.specs.Job.{pixel_count, layer_count, end_of, call_fault, Answer, acceptance, refusal}
 use Rattle.job.specs.Loans.{Loan, lent}
 
 -- ---- the pictures

@@ -1,14 +1,11 @@
 -- What the functions between a call and `store` ask, and what they leave. Definitions only.
-use Rattle.std.specs.Prelude.{◌≡◌, List, ℕ, ◌+◌, ◌*◌, ◌/◌, ◌%◌, ◌<◌, ◌≤◌, ℤ, pos, length}
-use Rattle.std.specs.Borrow.{Bor, MutBor}
-use Rattle.lent.specs.Lent.{Shown}
+use Rattle.std.specs.Prelude.{◌≡◌, List, ℕ, ◌+◌, ◌*◌, ◌/◌, ◌%◌, ◌<◌, ◌≤◌, length}
 use Rattle.faults.specs.Faults.{NONE}
-use Rattle.layers.specs.Inputs.{inputs_of, job_fault}
-use Rattle.pictures.specs.Shapes.{shape_of}
+use Rattle.layers.specs.Inputs.{inputs_in, job_fault}
 use Rattle.pictures.specs.Widen.{rgba_at}
 use Rattle.job.specs.declared.Extent.{Extent}
 use Rattle.job.specs.declared.Part.{Part}
-use Rattle.job.specs.Memory.{Mem, mem_of}
+use Rattle.job.specs.Memory.{Mem}
 use Rattle.job.specs.Job.{pixel_count, layer_count}
 use Rattle.job.specs.Call.{phase_pixel, run_of}
 use Rattle.job.specs.Uses.{Works, Batch, Midway}
@@ -17,27 +14,11 @@ use Rattle.job.specs.Uses.{Works, Batch, Midway}
 abbrev pub most_position : ℕ
 most_position = 4611686018427387904
 
--- ---- a function's parameters, as its contract names them
-
--- the memory that it is lent, in a `requires`
-abbrev pub held : (work0 work1 checkpoint : MutBor (List ℕ)) → Mem
-held work0 work1 checkpoint = mem_of work0.now work1.now checkpoint.now
-
--- the writes of an accepted call, by its numbers and the lists of its inputs
-abbrev pub batch_by : Extent → (dst : List ℕ) → (table : List ℤ) → (args samples : List ℕ) → Batch
-batch_by e dst table args samples =
-    let shape = shape_of (pos e.width) (pos e.height) (pos e.channels) in
-    record { inputs = inputs_of shape dst (pos e.layers) table args samples; start = e.start; due = e.due }
-
--- the same by a function's parameters, in a `requires`
-abbrev pub held_batch : Extent → (dst : Bor (List ℕ)) → (table : Bor (List ℤ)) → (args samples : Bor (List ℕ)) → Batch
-held_batch e dst table args samples = batch_by e dst.now table.now args.now samples.now
-
 -- ---- writes
 
--- those of an accepted call, by a function's parameters, in an `ensures`
-abbrev pub lent_batch : Extent → (dst : Shown (List ℕ)) → (table : Shown (List ℤ)) → (args samples : Shown (List ℕ)) → Batch
-lent_batch e dst table args samples = batch_by e dst.entry.now table.entry.now args.entry.now samples.entry.now
+-- those of an accepted call, as the code is lent its inputs
+abbrev pub batch_in : Extent → Batch
+batch_in e = record { inputs = inputs_in e.inputs; start = e.start; due = e.due }
 
 -- A part's writes are the next: of its first pixel none has been made.
 pub record NextPart (b : Batch) (uses : ℕ) (p : Part) (m : Mem) : Type 0 where

@@ -2,8 +2,7 @@
 -- number throughout leave and answer the same, but for that number, is shown in proofs/JobNumber. Definitions only.
 use Rattle.std.specs.Prelude.{cond, List, [], ◌∷◌, ℕ, ◌*◌, min, eqb, ltb, length}
 use Rattle.faults.specs.Faults.{NONE, WORK, MARK}
-use Rattle.layers.specs.declared.Verdict.{Verdict}
-use Rattle.layers.specs.Inputs.{Inputs, verdict, job_fault}
+use Rattle.layers.specs.Inputs.{Inputs, Verdict, verdict, job_fault}
 use Rattle.job.specs.Memory.{Mem, mem_of, position_of}
 use Rattle.job.specs.Job.{pixel_count, end_of, refusal}
 use Rattle.job.specs.Call.{Outcome, outcome, accepted_of}

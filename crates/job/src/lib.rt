@@ -4,10 +4,21 @@
 #![tactic(auto)]
 
 pub mod call; // call.rt: a call of a job
+mod size; // size.rt: how large a job is
 mod writes; // writes.rt: the writes of an accepted call, span by span
 mod fill; // fill.rt: pixels of one phase, composed into a buffer
 mod pixel; // pixel.rt: the writes of a pixel, and of a span, from the buffer
 mod store; // store.rt: the one function that writes
+
+use layers::JobInputs;
+
+// The memory that a job is lent: two work buffers and a checkpoint.
+#[derive(Drop)]
+pub struct Memory<'a> {
+    pub work0: &'a mut [u32],
+    pub work1: &'a mut [u32],
+    pub checkpoint: &'a mut [u64],
+}
 
 // One write (document 01: a store): a word of work buffer 0 or 1, or the job's position. None changes the checkpoint's other number, the job's.
 #[derive(Clone, Copy)]
@@ -17,13 +28,10 @@ enum Write {
     Checkpoint { position: u64 },
 }
 
-// The numbers of an accepted call: its inputs', the position that it found, and the writes that it makes.
+// The writes of an accepted call: its inputs, the position that it found, and how many writes it makes.
 #[derive(Clone, Copy)]
-struct Extent {
-    pub width: usize,
-    pub height: usize,
-    pub channels: usize,
-    pub layers: usize,
+struct Extent<'a> {
+    pub inputs: JobInputs<'a>,
     pub start: usize,
     pub due: usize,
 }
@@ -36,11 +44,9 @@ struct Part {
     pub n: usize,
 }
 
-// What a call answers: the number of its first fault and that fault's layer, or 0 and 0; the writes that it made; whether the job is finished.
-#[derive(Clone, Copy)]
-pub struct Answer {
-    pub number: u64,
-    pub layer: u64,
+// What a call without a fault answers: the writes that it made, and whether the job is finished.
+#[derive(Clone, Copy, Debug, PartialEq, Eq)]
+pub struct Progress {
     pub stores: u64,
     pub finished: bool,
 }

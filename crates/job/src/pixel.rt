@@ -1,12 +1,11 @@
 // The writes of a pixel, and of the pixels of a span, from the buffer that they were composed into.
 ghost use Rattle.std.specs.Prelude.{◌≡◌, ◌+◌, ◌*◌, ◌<◌, ◌≤◌, length};
-ghost use Rattle.lent.specs.Lent.{before, after};
 ghost use Rattle.pictures.specs.Widen.{rgba_at};
-ghost use Rattle.job.specs.Memory.{found, left, write_of};
-ghost use Rattle.job.specs.Steps.{held, held_batch, lent_batch, most_position, NextPart, Buffered, Ran};
+ghost use Rattle.job.specs.Memory.{mem_in, write_of, SameLists};
+ghost use Rattle.job.specs.Steps.{batch_in, most_position, NextPart, Buffered, Ran};
 
 use crate::store::store;
-use crate::{Extent, Part, Write};
+use crate::{Extent, Memory, Part, Write};
 
 // Write c of the five of pixel j of picture k, whose words are pixel x of the buffer: red, green, blue, alpha, then the position, raised by one.
 fn write_of(k: usize, j: usize, buf: &[u32], x: usize, c: usize, position: u64) -> Write
@@ -21,78 +20,57 @@ fn write_of(k: usize, j: usize, buf: &[u32], x: usize, c: usize, position: u64) 
     let at = 4 * j + c;
     let word = buf[4 * x + c];
     if k % 2 == 0 {
-        return Write::Work0 { at, word };
+        Write::Work0 { at, word }
+    } else {
+        Write::Work1 { at, word }
     }
-    Write::Work1 { at, word }
 }
 
 // A part of one pixel, whose words are pixel x of the buffer. The position is read from the checkpoint before each write, so also after alpha's: that
 // keeps the compiled writes in their order.
 fn pixel(
-    extent: Extent,
-    dst: &[u32],
-    table: &[i64],
-    args: &[u32],
-    samples: &[u32],
-    work0: &mut [u32],
-    work1: &mut [u32],
-    checkpoint: &mut [u64],
+    extent: Extent<'_>,
+    memory: &mut Memory<'_>,
     uses: &mut u64,
     part: Part,
     x: usize,
     buf: &[u32],
 )
-    requires { let batch = held_batch extent dst table args samples in let mem = held work0 work1 checkpoint in
+    requires { let batch = batch_in extent in let mem = mem_in memory.old in
         (NextPart batch uses.old part mem) × (Buffered batch part mem x buf.now) × (part.n ≤ 5) }
-    ensures { Ran (lent_batch extent dst table args samples) (before uses) part.n (after uses) (found work0 work1 checkpoint) (left work0 work1 checkpoint) }
+    ensures { (Ran (batch_in extent.entry) uses.old part.n uses.new (mem_in memory.old) (mem_in memory.new)) × SameLists memory.old memory.new }
 {
-    let mut c = 0;
-    while c < part.n {
-        let write = write_of(part.k, part.from, buf, x, c, checkpoint[0]);
-        store(
-            extent, dst, table, args, samples, work0, work1, checkpoint, uses, write,
-        );
-        c += 1;
+    for c in 0..part.n {
+        let write = write_of(part.k, part.from, buf, x, c, memory.checkpoint[0]);
+        store(extent, memory, uses, write);
     }
 }
 
 // A part, out of the buffer that begins with its pixels: whole pixels, then the first writes of one more.
 pub fn write_out(
-    extent: Extent,
-    dst: &[u32],
-    table: &[i64],
-    args: &[u32],
-    samples: &[u32],
-    work0: &mut [u32],
-    work1: &mut [u32],
-    checkpoint: &mut [u64],
+    extent: Extent<'_>,
+    memory: &mut Memory<'_>,
     uses: &mut u64,
     part: Part,
     buf: &[u32],
 )
-    requires { let batch = held_batch extent dst table args samples in let mem = held work0 work1 checkpoint in
+    requires { let batch = batch_in extent in let mem = mem_in memory.old in
         (NextPart batch uses.old part mem) × (Buffered batch part mem 0 buf.now) }
-    ensures { Ran (lent_batch extent dst table args samples) (before uses) part.n (after uses) (found work0 work1 checkpoint) (left work0 work1 checkpoint) }
+    ensures { (Ran (batch_in extent.entry) uses.old part.n uses.new (mem_in memory.old) (mem_in memory.new)) × SameLists memory.old memory.new }
 {
     let full = part.n / 5;
-    let mut x = 0;
-    while x < full {
+    for x in 0..full {
         let whole = Part {
             k: part.k,
             from: part.from + x,
             n: 5,
         };
-        pixel(
-            extent, dst, table, args, samples, work0, work1, checkpoint, uses, whole, x, buf,
-        );
-        x += 1;
+        pixel(extent, memory, uses, whole, x, buf);
     }
     let last = Part {
         k: part.k,
         from: part.from + full,
         n: part.n % 5,
     };
-    pixel(
-        extent, dst, table, args, samples, work0, work1, checkpoint, uses, last, full, buf,
-    );
+    pixel(extent, memory, uses, last, full, buf);
 }

@@ -16,11 +16,10 @@ use Rattle.pictures.proofs.Ranges.{both_fail, all_fail, Ranged, ranged, channels
 use Rattle.places.specs.Bounds.{slack, Measured}
 use Rattle.places.specs.Gravities.{last_gravity}
 use Rattle.layers.specs.declared.Layer.{Layer}
-use Rattle.layers.specs.declared.Verdict.{Verdict}
 use Rattle.layers.specs.Cells.{row_at, words_at, cell_of}
 use Rattle.layers.specs.Faults.{bad_offset, bad_placing, source_shape, bad_source, layer_checks, layer_fault}
 use Rattle.layers.specs.GoodLayers.{GoodLayer, Picture}
-use Rattle.layers.specs.Inputs.{Inputs, verdict, bad_stack, bad_dst, rows_fault, job_fault}
+use Rattle.layers.specs.Inputs.{Inputs, Verdict, verdict, bad_stack, bad_dst, rows_fault, job_fault}
 use Rattle.layers.specs.Layers.{layer_of, layer_at}
 use Rattle.layers.specs.Limits.{columns, arg_words, most_layers, most_offset, at_gravity, at_right, at_down, at_first}
 use Rattle.layers.proofs.Carried.{carried}

@@ -5,17 +5,18 @@ use native.Mathlib.Omega.{arith}
 use lib.Dec.{ltb}
 use lib.IntN.{ℤ, pos, negsuc}
 use borrow.Author.Tests.{eqb-false}
+use Rattle.std.specs.Prelude.{Ok, Err}
 use Rattle.operators.specs.Numbers.{curve, named, op_of}
 use Rattle.operators.specs.Operators.{count, number_of, op_at, same_op}
 use Rattle.operators.specs.declared.CompositeOp.{CompositeOp}
 use Rattle.operators.specs.declared.CompositeOp.TheVariants.{Interpolate, Blur}
-use Rattle.operators.specs.declared.Numbered.TheVariants.{Op, Unknown, Curve}
+use Rattle.faults.specs.declared.Fault.TheVariants.{Operator, Curve}
 use Rattle.pictures.specs.Shapes.{nat_of}
 use Rattle.pictures.proofs.Ranges.{both_fail}
 use Rattle.layers.specs.Faults.{op_fault}
 use Rattle.layers.specs.GoodLayers.{Carried}
 
-passed : (below curve : Bool) (o : CompositeOp) → op_fault (cond below (cond curve Curve (Op o)) Unknown) ≡ 0 → (below ≡ true) × (curve ≡ false)
+passed : (below curve : Bool) (o : CompositeOp) → op_fault (cond below (cond curve (Err Curve) (Ok o)) (Err Operator)) ≡ 0 → (below ≡ true) × (curve ≡ false)
 passed true true o e = absurd (omega arith)
 passed true false o e = (refl, refl)
 passed false curve o e = absurd (omega arith)

@@ -16,13 +16,6 @@ found {f} rest h = rw (ne_eqb f 0 h)
 pub past : {f rest : ℕ} → f ≡ 0 → cond (eqb f 0) rest f ≡ rest
 past e = rw e
 
--- the same of a check that is a test
-pub found_by_lem : {t : Bool} (rest n : ℕ) → t ≡ true → cond (eqb (fault_if t (suc n)) 0) rest (fault_if t (suc n)) ≡ suc n
-found_by_lem rest n e = rw e (found rest (λ z. omega arith))
-
-pub past_by : {t : Bool} {rest : ℕ} (n : ℕ) → t ≡ false → cond (eqb (fault_if t n) 0) rest (fault_if t n) ≡ rest
-past_by n e = rw e
-
 -- ---- no fault
 
 abbrev pub Each : List ℕ → Type 0

@@ -14,9 +14,6 @@ use Rattle.pictures.proofs.Ranges.{nat_mag}
 pub answered : {z y : ℤ} → mag z < 2 ^ hbits w64 → z ≡ y → to_z w64 (of_z w64 z) ≡ y
 answered ok e = to_z-of_z {w = w64} (sfits_of ok) ∙ e
 
-pub answered_small : {z y : ℤ} → mag z < 2 ^ hbits w64 → z ≡ y → nat_of y < 2 ^ 63
-answered_small {z} ok e = rw (← e) (omega (arith, nat_mag z, ok))
-
 -- a number that was made natural
 pub natural_small : {n : ℕ} (z : ℤ) → n ≡ nat_of z → SFits w64 z → n < 2 ^ 63
 natural_small z e h = omega (arith, e, nat_mag z, h.sfits)

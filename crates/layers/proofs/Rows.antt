@@ -25,6 +25,3 @@ module _ (table : List ℤ) (samples : ℕ) {k n f : ℕ} (h : k < n) (e : f ≡
 pub done : (table : List ℤ) (samples k n : ℕ) → n ≤ k → rows_fault table samples k (n - k) ≡ verdict 0 0
 unfolding rows_fault
 done table samples k n h = let z : n - k ≡ 0 = omega arith in rw z
-
-pub none_passed : (table : List ℤ) (samples n : ℕ) → rows_fault table samples 0 n ≡ rows_fault table samples 0 (n - 0)
-none_passed table samples n = let z : n - 0 ≡ n = omega arith in rw z

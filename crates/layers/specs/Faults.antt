@@ -1,11 +1,12 @@
 -- The faults of a layer's row, OPERATOR to ARGUMENTS of document 01's table and document 02's WINDOW after them, in exact integers: the number of the first
 -- one. A further check of the row is one more line at the end of `layer_checks`.
-use Rattle.std.specs.Prelude.{Bool, cond, ◌||◌, List, [], ◌∷◌, ℕ, ◌+◌, eqb, ltb, ℤ, pos, neg_ℤ}
+use Rattle.std.specs.Prelude.{Bool, cond, ◌||◌, List, [], ◌∷◌, ℕ, ◌+◌, eqb, ltb, ℤ, pos, neg_ℤ, Result}
 use Rattle.std.specs.Int.Signed.{lt_z}
-use Rattle.faults.specs.Faults.{NONE, OPERATOR, CURVE, PLACING, FLAGS, SOURCE, ARGUMENTS, WINDOW}
+use Rattle.faults.specs.declared.Fault.{Fault}
+use Rattle.faults.specs.Numbers.{number_in}
+use Rattle.faults.specs.Faults.{NONE, PLACING, FLAGS, SOURCE, ARGUMENTS, WINDOW}
 use Rattle.operators.specs.Numbers.{op_of}
-use Rattle.operators.specs.declared.Numbered.{Numbered}
-use Rattle.operators.specs.declared.Numbered.TheVariants.{Op, Unknown, Curve}
+use Rattle.operators.specs.declared.CompositeOp.{CompositeOp}
 use Rattle.pictures.specs.declared.Shape.{Shape}
 use Rattle.pictures.specs.Shapes.{nat_of, outside_z, shape_of, bad_shape, sample_count}
 use Rattle.places.specs.Gravities.{last_gravity}
@@ -21,11 +22,9 @@ first_of (f ∷ fs) = cond (eqb f NONE) (first_of fs) f
 abbrev pub fault_if : Bool → ℕ → ℕ
 fault_if t number = cond t number NONE
 
--- what a row's operator names: none is OPERATOR, one that is not carried CURVE
-abbrev pub op_fault : Numbered → ℕ
-op_fault (Op o) = NONE
-op_fault Unknown = OPERATOR
-op_fault Curve = CURVE
+-- the fault of what a row's operator names, which operators/specs/Numbers says: OPERATOR or CURVE
+abbrev pub op_fault : Result CompositeOp Fault → ℕ
+op_fault r = number_in r
 
 -- an offset is outside its range
 abbrev pub bad_offset : ℤ → Bool

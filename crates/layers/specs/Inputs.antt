@@ -1,11 +1,12 @@
 -- A job's inputs and their first fault: document 01's checks 1 and 2, then 3 to 8 and document 02's 13 layer by layer. The checks of the memory
 -- that a job is lent, 9 and 10, are not here.
-use Rattle.std.specs.Prelude.{Bool, cond, not, ◌||◌, List, ℕ, zero, suc, ◌*◌, eqb, ℤ, pos, length}
-use Rattle.lent.specs.Lent.{Shown}
+use Rattle.std.specs.Prelude.{Bool, cond, not, ◌||◌, List, ℕ, zero, suc, ◌*◌, eqb, ℤ, pos, length, Result, Ok, Err}
 use Rattle.faults.specs.Faults.{NONE, STACK, TRAY}
+use Rattle.faults.specs.Numbers.{number_of}
 use Rattle.pictures.specs.declared.Shape.{Shape}
 use Rattle.pictures.specs.Shapes.{nat_of, outside_z, bad_shape, sample_count}
-use Rattle.layers.specs.declared.Verdict.{Verdict}
+use Rattle.layers.specs.declared.JobInputs.{JobInputs}
+use Rattle.layers.specs.declared.Refusal.{Refusal}
 use Rattle.layers.specs.Cells.{row_at}
 use Rattle.layers.specs.Faults.{layer_fault}
 use Rattle.layers.specs.Limits.{columns, arg_words, most_layers}
@@ -23,13 +24,22 @@ pub record Inputs : Type 0 where
 abbrev pub inputs_of : Shape → List ℕ → ℤ → List ℤ → List ℕ → List ℕ → Inputs
 inputs_of shape dst count table args samples = record { shape = shape; dst = dst; count = count; table = table; args = args; samples = samples }
 
--- the same by a function's parameters, as an `ensures` names them
-abbrev pub inputs : Shape → (dst : Shown (List ℕ)) → (count : ℤ) → (table : Shown (List ℤ)) → (args samples : Shown (List ℕ)) → Inputs
-inputs shape dst count table args samples = inputs_of shape dst.entry.now count table.entry.now args.entry.now samples.entry.now
+-- the same as the code is lent them
+abbrev pub inputs_in : JobInputs → Inputs
+inputs_in i = inputs_of i.shape i.dst.now i.count i.table.now i.args.now i.samples.now
 
--- a fault's number and its layer
+-- the number of a job's first fault and its layer, 0 and 0 where it has none
+pub record Verdict : Type 0 where
+  pub number : ℕ
+  pub layer : ℕ
+
 abbrev pub verdict : ℕ → ℕ → Verdict
 verdict number layer = record { number = number; layer = layer }
+
+-- the same of what the code answers
+abbrev pub verdict_of : Result Unit Refusal → Verdict
+verdict_of (Ok u) = verdict NONE 0
+verdict_of (Err r) = verdict (number_of r.fault) r.layer
 
 -- STACK, for the lengths of the table and of the arguments
 unfoldable pub bad_stack : ℤ → ℕ → ℕ → Bool

@@ -1,7 +1,7 @@
 -- A layer as one value, from its row of the layer table and its words of the arguments (document 01: "ten signed 64-bit numbers a layer", and document
 -- 02's four; flags; arguments, of which "those past the count are not read"). Every row decodes to a layer; that the numbers are in their ranges is asked
 -- in Faults.
-use Rattle.std.specs.Prelude.{Bool, cond, List, ℕ, ◌/◌, ◌%◌, eqb, ltb, ℤ, get_or}
+use Rattle.std.specs.Prelude.{Bool, cond, List, [], ◌∷◌, ℕ, ◌/◌, ◌%◌, eqb, ltb, ℤ, get_or}
 use Rattle.operators.specs.Operators.{op_at}
 use Rattle.pictures.specs.Shapes.{nat_of}
 use Rattle.places.specs.Gravities.{gravity_at}
@@ -41,10 +41,7 @@ arg_of words count i = cond (ltb i count) (get_or words i 0) 0
 abbrev pub args_of : (words : List ℕ) → (count : ℕ) → Args
 args_of words count = record {
   count = count;
-  a0 = arg_of words count 0;
-  a1 = arg_of words count 1;
-  a2 = arg_of words count 2;
-  a3 = arg_of words count 3;
+  words = arg_of words count 0 ∷ arg_of words count 1 ∷ arg_of words count 2 ∷ arg_of words count 3 ∷ [];
 }
 
 unfoldable pub layer_of : (row : List ℤ) → (words : List ℕ) → Layer

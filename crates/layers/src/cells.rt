@@ -1,29 +1,18 @@
-// The rows of the layer table and their numbers, and the words of a layer's arguments. The contracts cite specs/Cells.
-ghost use Rattle.std.specs.Prelude.{◌≡◌, ◌+◌, ◌*◌, ◌<◌, ◌≤◌, length};
-ghost use Rattle.lent.specs.Lent.{before};
+// The rows of the layer table and their numbers, and the words of a layer's arguments. The contracts cite specs/Cells. A row is a slice whose length each
+// clause asks for, and not an array: `Layer::of` and `Layer::check`, which docs/READING names, take it so.
+ghost use Rattle.std.specs.Prelude.{◌≡◌, ◌+◌, ◌*◌, ◌<◌, ◌≤◌, length, take, drop};
 ghost use Rattle.pictures.specs.Shapes.{nat_of, outside_z};
-ghost use Rattle.layers.specs.Cells.{row_at, words_at, cell_of};
-ghost use Rattle.layers.specs.Limits.{columns, arg_words};
+ghost use Rattle.layers.specs.Cells.{cell_of};
 
-use crate::Layer;
 use pictures::shapes::{natural, outside};
 
-// Row k of the layer table.
-pub fn row_at(table: &[i64], k: usize) -> &[i64]
-    requires { k * columns + columns ≤ length table.now }
-    ensures { (result.now ≡ row_at table.now k) × (length result.now ≡ columns) }
+// Part k of a list that is made of parts of `size`: a row of the layer table, or the words of a layer's arguments.
+pub fn part<T>(list: &[T], size: usize, k: usize) -> &[T]
+    requires { k * size + size ≤ length list.now }
+    ensures { (result.now ≡ take size (drop (k * size) list.now)) × (length result.now ≡ size) }
 {
-    let first = k * Layer::COLUMNS;
-    &table[first..first + Layer::COLUMNS]
-}
-
-// The words of layer k's arguments.
-pub fn words_at(args: &[u32], k: usize) -> &[u32]
-    requires { k * arg_words + arg_words ≤ length args.now }
-    ensures { (result.now ≡ words_at args.now k) × (length result.now ≡ arg_words) }
-{
-    let first = k * Layer::ARGS;
-    &args[first..first + Layer::ARGS]
+    let first = k * size;
+    &list[first..first + size]
 }
 
 // The number in a column of a row.

@@ -1,10 +1,9 @@
 // A layer from its row and the words of its arguments. The contracts cite specs/Layers.
 ghost use Rattle.std.specs.Prelude.{◌≡◌, ◌+◌, ◌*◌, ◌<◌, ◌≤◌, length};
-ghost use Rattle.lent.specs.Lent.{before};
 ghost use Rattle.layers.specs.Layers.{flagged, mask_of, source_in, arg_of, args_of, layer_of, layer_at};
 ghost use Rattle.layers.specs.Limits.{columns, arg_words};
 
-use crate::cells::{cell, natural_at, row_at, words_at};
+use crate::cells::{cell, natural_at, part};
 use crate::{Args, ChannelMask, Layer, Source, Window};
 use operators::CompositeOp;
 use places::Gravity;
@@ -33,7 +32,7 @@ impl ChannelMask {
 }
 
 impl Source {
-    // The source that a row names.
+    // The source that a row names. Beside `Window::of`: each names the fields of its own type, and their columns.
     fn of(row: &[i64]) -> Source
         requires { length row.now ≡ columns }
         ensures { result ≡ source_in row.now }
@@ -53,10 +52,7 @@ fn arg(words: &[u32], count: usize, i: usize) -> u32
     requires { i < length words.now }
     ensures { result ≡ arg_of words.now count i }
 {
-    if i < count {
-        return words[i];
-    }
-    0
+    if i < count { words[i] } else { 0 }
 }
 
 impl Args {
@@ -66,11 +62,13 @@ impl Args {
         ensures { result ≡ args_of words.now count }
     {
         Args {
-            count: count,
-            a0: arg(words, count, 0),
-            a1: arg(words, count, 1),
-            a2: arg(words, count, 2),
-            a3: arg(words, count, 3),
+            count,
+            words: [
+                arg(words, count, 0),
+                arg(words, count, 1),
+                arg(words, count, 2),
+                arg(words, count, 3),
+            ],
         }
     }
 }
@@ -89,15 +87,15 @@ impl Layer {
         let source = Source::of(row);
         let args = Args::of(words, natural_at(row, Self::AT_COUNT));
         Layer {
-            op: op,
-            gravity: gravity,
+            op,
+            gravity,
             right: cell(row, Self::AT_RIGHT),
             down: cell(row, Self::AT_DOWN),
             tile: flag(flags, Self::TILE),
             outside_overlay: flag(flags, Self::OVERLAY),
-            mask: mask,
-            source: source,
-            args: args,
+            mask,
+            source,
+            args,
             window: Window::of(row),
         }
     }
@@ -108,6 +106,6 @@ impl Layer {
         requires { (k * columns + columns ≤ length table.now) × (k * arg_words + arg_words ≤ length args.now) }
         ensures { result ≡ layer_at table.now args.now k }
     {
-        Self::of(row_at(table, k), words_at(args, k))
+        Self::of(part(table, Self::COLUMNS, k), part(args, Self::ARGS, k))
     }
 }

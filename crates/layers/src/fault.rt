@@ -1,30 +1,16 @@
 // The faults of a row, for the number of the source samples. The contracts cite specs/Faults.
 ghost use Rattle.std.specs.Prelude.{◌≡◌, length};
-ghost use Rattle.lent.specs.Lent.{before};
-ghost use Rattle.operators.specs.Numbers.{op_of};
-ghost use Rattle.layers.specs.Cells.{cell_of};
-ghost use Rattle.layers.specs.Faults.{op_fault, bad_placing, source_shape, bad_source, bad_window, layer_fault};
-ghost use Rattle.layers.specs.Limits.{columns, at_operator};
+ghost use Rattle.faults.specs.Numbers.{number_in};
+ghost use Rattle.layers.specs.Faults.{bad_placing, source_shape, bad_source, bad_window, layer_fault};
+ghost use Rattle.layers.specs.Limits.{columns};
 
 use crate::Layer;
 use crate::cells::{cell, outside_at};
 use faults::Fault;
-use operators::{CompositeOp, Numbered};
+use operators::CompositeOp;
 use pictures::Shape;
 use pictures::shapes::{bad_shape, natural, sample_count};
 use places::Gravity;
-
-// The fault of what a row's operator names.
-fn operator_fault(row: &[i64]) -> u64
-    requires { length row.now ≡ columns }
-    ensures { result ≡ op_fault (op_of (cell_of row.now at_operator)) }
-{
-    match CompositeOp::from_number(cell(row, Layer::AT_OPERATOR)) {
-        Numbered::Op(_) => Fault::NONE,
-        Numbered::Unknown => Fault::OPERATOR,
-        Numbered::Curve => Fault::CURVE,
-    }
-}
 
 // Whether the gravity or an offset is out of its range.
 #[tactic(auto, unfolding(crate::specs::Faults::bad_placing))]
@@ -32,13 +18,9 @@ fn bad_placing(row: &[i64]) -> bool
     requires { length row.now ≡ columns }
     ensures { result ≡ bad_placing row.now }
 {
-    if outside_at(row, Layer::AT_GRAVITY, 0, Gravity::LAST as i64) {
-        return true;
-    }
-    if outside_at(row, Layer::AT_RIGHT, -Layer::OFFSET, Layer::OFFSET) {
-        return true;
-    }
-    outside_at(row, Layer::AT_DOWN, -Layer::OFFSET, Layer::OFFSET)
+    outside_at(row, Layer::AT_GRAVITY, 0, Gravity::LAST as i64)
+        || outside_at(row, Layer::AT_RIGHT, -Layer::OFFSET, Layer::OFFSET)
+        || outside_at(row, Layer::AT_DOWN, -Layer::OFFSET, Layer::OFFSET)
 }
 
 // The shape of the source, as a row gives it.
@@ -60,11 +42,9 @@ fn bad_source(row: &[i64], samples: usize) -> bool
     ensures { result ≡ bad_source row.now samples }
 {
     let first = cell(row, Layer::AT_FIRST);
-    if first < 0 {
-        return true;
-    }
     let shape = source_shape(row);
-    if bad_shape(shape) {
+    // The last test stands apart: samples are counted only of a shape in its range.
+    if first < 0 || bad_shape(shape) {
         return true;
     }
     samples < natural(first) + sample_count(shape)
@@ -76,49 +56,24 @@ fn bad_window(row: &[i64]) -> bool
     requires { length row.now ≡ columns }
     ensures { result ≡ bad_window row.now }
 {
-    if outside_at(row, Layer::AT_LEFT, 0, Layer::WINDOW) {
-        return true;
-    }
-    if outside_at(row, Layer::AT_TOP, 0, Layer::WINDOW) {
-        return true;
-    }
-    if outside_at(row, Layer::AT_WINDOW_WIDTH, 0, Layer::WINDOW) {
-        return true;
-    }
-    outside_at(row, Layer::AT_WINDOW_HEIGHT, 0, Layer::WINDOW)
+    outside_at(row, Layer::AT_LEFT, 0, Layer::WINDOW)
+        || outside_at(row, Layer::AT_TOP, 0, Layer::WINDOW)
+        || outside_at(row, Layer::AT_WINDOW_WIDTH, 0, Layer::WINDOW)
+        || outside_at(row, Layer::AT_WINDOW_HEIGHT, 0, Layer::WINDOW)
 }
 
 impl Layer {
-    // The number of a row's first fault, or NONE.
+    // A row's first fault, if it has one.
     #[tactic(auto, unfolding(crate::specs::Faults::layer_fault))]
-    pub fn fault(row: &[i64], samples: usize) -> u64
+    pub fn check(row: &[i64], samples: usize) -> Result<(), Fault>
         requires { length row.now ≡ columns }
-        ensures { result ≡ layer_fault row.now samples }
+        ensures { number_in result ≡ layer_fault row.now samples }
     {
-        let operator = operator_fault(row);
-        let placing = bad_placing(row);
-        let flags = outside_at(row, Self::AT_FLAGS, 0, Self::FLAGS);
-        let source = bad_source(row, samples);
-        let arguments = outside_at(row, Self::AT_COUNT, 0, Self::ARGS as i64);
-        let window = bad_window(row);
-        if operator != Fault::NONE {
-            return operator;
-        }
-        if placing {
-            return Fault::PLACING;
-        }
-        if flags {
-            return Fault::FLAGS;
-        }
-        if source {
-            return Fault::SOURCE;
-        }
-        if arguments {
-            return Fault::ARGUMENTS;
-        }
-        if window {
-            return Fault::WINDOW;
-        }
-        Fault::NONE
+        CompositeOp::from_number(cell(row, Self::AT_OPERATOR))?;
+        Fault::Placing.when(bad_placing(row))?;
+        Fault::Flags.when(outside_at(row, Self::AT_FLAGS, 0, Self::FLAGS))?;
+        Fault::Source.when(bad_source(row, samples))?;
+        Fault::Arguments.when(outside_at(row, Self::AT_COUNT, 0, Self::ARGS as i64))?;
+        Fault::Window.when(bad_window(row))
     }
 }

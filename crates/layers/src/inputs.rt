@@ -1,11 +1,10 @@
 // The first fault of a job's inputs. The contracts cite specs/Inputs.
 ghost use Rattle.std.specs.Prelude.{◌≡◌, ◌*◌, ◌≤◌, length};
-ghost use Rattle.lent.specs.Lent.{before};
-ghost use Rattle.layers.specs.Inputs.{inputs, bad_stack, bad_dst, rows_fault, job_fault};
+ghost use Rattle.layers.specs.Inputs.{inputs_in, verdict_of, bad_stack, bad_dst, rows_fault, job_fault};
 ghost use Rattle.layers.specs.Limits.{columns};
 
-use crate::cells::row_at;
-use crate::{Layer, Verdict};
+use crate::cells::part;
+use crate::{JobInputs, Layer, Refusal};
 use faults::Fault;
 use pictures::Shape;
 use pictures::shapes::{bad_shape, natural, outside, sample_count};
@@ -15,14 +14,8 @@ use pictures::shapes::{bad_shape, natural, outside, sample_count};
 fn bad_stack(count: i64, table: usize, args: usize) -> bool
     ensures { result ≡ bad_stack count table args }
 {
-    if outside(count, 1, Layer::MOST) {
-        return true;
-    }
     let n = natural(count);
-    if table != n * Layer::COLUMNS {
-        return true;
-    }
-    args != n * Layer::ARGS
+    outside(count, 1, Layer::MOST) || table != n * Layer::COLUMNS || args != n * Layer::ARGS
 }
 
 // Whether the destination's shape is none, or its samples are not as many as it says.
@@ -30,57 +23,31 @@ fn bad_stack(count: i64, table: usize, args: usize) -> bool
 fn bad_dst(shape: Shape, dst: usize) -> bool
     ensures { result ≡ bad_dst shape dst }
 {
-    if bad_shape(shape) {
-        return true;
-    }
-    dst != sample_count(shape)
+    bad_shape(shape) || dst != sample_count(shape)
 }
 
-// The first fault of so many rows, with its row; NONE and 0 where there is none.
-fn rows_fault(table: &[i64], layers: usize, samples: usize) -> Verdict
+// The first fault of so many rows, with its row.
+fn check_rows(table: &[i64], layers: usize, samples: usize) -> Result<(), Refusal>
     requires { layers * columns ≤ length table.now }
-    ensures { result ≡ rows_fault table.now samples 0 layers }
+    ensures { verdict_of result ≡ rows_fault table.now samples 0 layers }
 {
-    let mut k = 0;
-    while k < layers {
-        let f = Layer::fault(row_at(table, k), samples);
-        if f != Fault::NONE {
-            return Verdict {
-                number: f,
+    for k in 0..layers {
+        if let Err(fault) = Layer::check(part(table, Layer::COLUMNS, k), samples) {
+            return Err(Refusal {
+                fault,
                 layer: k as u64,
-            };
+            });
         }
-        k += 1;
     }
-    Verdict {
-        number: Fault::NONE,
-        layer: 0,
-    }
+    Ok(())
 }
 
 // The first fault of a job's inputs: STACK and TRAY, then the rows' layer by layer.
 #[tactic(auto, unfolding(crate::specs::Inputs::job_fault))]
-pub fn check(
-    shape: Shape,
-    dst: &[u32],
-    count: i64,
-    table: &[i64],
-    args: &[u32],
-    samples: &[u32],
-) -> Verdict
-    ensures { result ≡ job_fault (inputs shape dst count table args samples) }
+pub fn check(i: JobInputs<'_>) -> Result<(), Refusal>
+    ensures { verdict_of result ≡ job_fault (inputs_in i.entry) }
 {
-    if bad_stack(count, table.len(), args.len()) {
-        return Verdict {
-            number: Fault::STACK,
-            layer: 0,
-        };
-    }
-    if bad_dst(shape, dst.len()) {
-        return Verdict {
-            number: Fault::TRAY,
-            layer: 0,
-        };
-    }
-    rows_fault(table, natural(count), samples.len())
+    Fault::Stack.when(bad_stack(i.count, i.table.len(), i.args.len()))?;
+    Fault::Tray.when(bad_dst(i.shape, i.dst.len()))?;
+    check_rows(i.table, natural(i.count), i.samples.len())
 }

@@ -2,12 +2,15 @@
 // The definitions are in specs/, the limits in specs/Limits.
 #![tactic(auto)]
 
+ghost use Rattle.std.specs.Prelude.{◌≡◌};
+
 mod cells; // cells.rt: the rows of the layer table and their numbers
 mod decode; // decode.rt: a layer from its row
 mod fault; // fault.rt: the faults of a row
 mod inputs; // inputs.rt: the first fault of a job's inputs
 mod windows; // windows.rt: a layer's window, and the pixels that it holds
 
+use faults::Fault;
 pub use inputs::check;
 use operators::CompositeOp;
 use pictures::Shape;
@@ -35,10 +38,7 @@ pub struct Source {
 #[derive(Clone, Copy)]
 pub struct Args {
     pub count: usize,
-    pub a0: u32,
-    pub a1: u32,
-    pub a2: u32,
-    pub a3: u32,
+    pub words: [u32; Layer::ARGS],
 }
 
 // The pixels of the destination that a layer may write (document 02, A.3).
@@ -64,11 +64,32 @@ pub struct Layer {
     pub window: Window,
 }
 
-// The number of a job's first fault and its layer, 0 where it has none.
+// A job's inputs, as a caller lends them to be read: the destination, its shape and its samples; the count of layers; the layer table; the arguments; the
+// source samples.
 #[derive(Clone, Copy)]
-pub struct Verdict {
-    pub number: u64,
+pub struct JobInputs<'a> {
+    pub shape: Shape,
+    pub dst: &'a [u32],
+    pub count: i64,
+    pub table: &'a [i64],
+    pub args: &'a [u32],
+    pub samples: &'a [u32],
+}
+
+// Why a job is refused, and the layer that it concerns.
+#[derive(Clone, Copy, Debug, PartialEq, Eq)]
+pub struct Refusal {
+    pub fault: Fault,
     pub layer: u64,
+}
+
+// A fault that concerns no layer, or the layer 0.
+impl From<Fault> for Refusal {
+    ghost from_gives = { λ fault refusal. refusal ≡ record { fault = fault; layer = 0 } };
+
+    fn from(fault: Fault) -> Refusal {
+        Refusal { fault, layer: 0 }
+    }
 }
 
 impl ChannelMask {
@@ -99,7 +120,7 @@ impl Layer {
     pub const TILE: usize = 1;
 
     pub const OVERLAY: usize = 2;
-    // The columns of a layer's row.
+    // The columns of a layer's row, which callers in C fill by these numbers.
     pub const AT_OPERATOR: usize = 0;
 
     pub const AT_GRAVITY: usize = 1;

@@ -1,6 +1,5 @@
 // A layer's window, and the pixels that it holds. The contracts cite specs/Windows.
 ghost use Rattle.std.specs.Prelude.{◌≡◌, length};
-ghost use Rattle.lent.specs.Lent.{before};
 ghost use Rattle.layers.specs.Limits.{columns};
 ghost use Rattle.layers.specs.Windows.{window_in, within, holds};
 
@@ -11,10 +10,7 @@ use crate::{Layer, Window};
 fn within(first: usize, extent: usize, at: usize) -> bool
     ensures { result ≡ within first extent at }
 {
-    if at < first {
-        return false;
-    }
-    at - first < extent
+    first <= at && at - first < extent
 }
 
 impl Window {
@@ -36,9 +32,6 @@ impl Window {
     pub fn holds(self, x: usize, y: usize) -> bool
         ensures { result ≡ holds self x y }
     {
-        if within(self.left, self.width, x) {
-            return within(self.top, self.height, y);
-        }
-        false
+        within(self.left, self.width, x) && within(self.top, self.height, y)
     }
 }

@@ -12,8 +12,7 @@ use lib.ListN.{length, get_or}
 use borrow.Author.Tests.{ne_eqb, le-leb, lt-leb}
 use Rattle.operators.specs.Operators.{number_of}
 use Rattle.names.specs.Names.{Entry, entries, is_kept, lower, key_of, same, lookup, from_name}
-use Rattle.names.specs.declared.Named.{Named}
-use Rattle.names.specs.declared.Named.TheVariants.{Operator, Unknown}
+use Rattle.std.specs.Prelude.{Option, Some, None}
 
 -- each byte is below 128
 abbrev ascii : List ℕ → Bool
@@ -57,17 +56,17 @@ alike (a ∷ x) (b ∷ w) s t =
     (and_i (ltb b 128) (ascii x) (and_l (ltb b 128) (ascii w) t)
     (alike x w (and_r (eqb a b) (same x w) s) (and_r (ltb b 128) (ascii w) t)))
 
-passed : (t : Bool) (n : ℕ) (r : Named) → (T t → ⊥) → r ≡ Unknown → cond t (Operator n) r ≡ Unknown
+passed : (t : Bool) (n : ℕ) (r : Option ℕ) → (T t → ⊥) → r ≡ None → cond t (Some n) r ≡ None
 passed true n r h e = absurd (h tt)
 passed false n r h e = e
 
-unnamed : (x : List ℕ) (es : List Entry) → (T (ascii x) → ⊥) → T (all_ascii es) → lookup x es ≡ Unknown
+unnamed : (x : List ℕ) (es : List Entry) → (T (ascii x) → ⊥) → T (all_ascii es) → lookup x es ≡ None
 unnamed x [] h t = refl
 unnamed x (e ∷ es) h t =
     passed (same x e.word) (number_of e.op) (lookup x es)
     (λ s. h (alike x e.word s (and_l (ascii e.word) (all_ascii es) t)))
     (unnamed x es h (and_r (ascii e.word) (all_ascii es) t))
 
-pub beyond_ascii : (s : List ℕ) (i : ℕ) → i < length s → 128 ≤ get_or s i 0 → from_name s ≡ Unknown
+pub beyond_ascii : (s : List ℕ) (i : ℕ) → i < length s → 128 ≤ get_or s i 0 → from_name s ≡ None
 unfolding from_name entries
 beyond_ascii s i h g = unnamed (key_of s) entries (key_high s i h g) tt

@@ -14,8 +14,7 @@ use Rattle.operators.specs.Operators.{number_of}
 use Rattle.operators.specs.declared.CompositeOp.TheVariants.{Over}
 use Rattle.names.specs.Names.{Entry, name, entries, key_of, same, is_kept, lower, from_name}
 use Rattle.names.specs.Packed.{words, numbers, letters, lengths, cut}
-use Rattle.names.specs.declared.Named.{Named}
-use Rattle.names.specs.declared.Named.TheVariants.{Operator, Unknown}
+use Rattle.std.specs.Prelude.{Option, Some, None}
 use Rattle.names.proofs.EndToEnd.{names_packed}
 
 -- a list of bytes is one of a list
@@ -68,19 +67,19 @@ each_once i j h g e =
     names_distinct i j (omega (arith, keys_count)) (omega (arith, keys_count)) (at i ∙ ap key_of (rw names_packed.0 at e) ∙ sym (at j))
 
 -- an answer is the operator with a number
-abbrev is_operator : Named → ℕ → Bool
-is_operator (Operator m) n = eqb m n
-is_operator Unknown n = false
+abbrev is_operator : Option ℕ → ℕ → Bool
+is_operator (Some m) n = eqb m n
+is_operator None n = false
 
-is_operator_lem : (r : Named) (n : ℕ) → T (is_operator r n) → r ≡ Operator n
-is_operator_lem (Operator m) n t = ap Operator (eqb→eq m n t)
-is_operator_lem Unknown n t = absurd t
+is_operator_lem : (r : Option ℕ) (n : ℕ) → T (is_operator r n) → r ≡ Some n
+is_operator_lem (Some m) n t = ap Some (eqb→eq m n t)
+is_operator_lem None n t = absurd t
 
 -- each of the 83 names is read as its operator
-pub names_known : (k : ℕ) → k < length entries → from_name (get_or (words entries) k []) ≡ Operator (get_or numbers k 0)
+pub names_known : (k : ℕ) → k < length entries → from_name (get_or (words entries) k []) ≡ Some (get_or numbers k 0)
 unfolding from_name entries numbers is_kept lower
 names_known k h =
     let none = name "" Over in
     ap from_name (get_or-map (λ (e : Entry). e.word) entries k none)
     ∙ is_operator_lem _ _ (at_each (λ i e. is_operator (from_name e.word) (number_of e.op)) none entries tt k h)
-    ∙ ap Operator (sym (get_or-map (λ (e : Entry). number_of e.op) entries k none))
+    ∙ ap Some (sym (get_or-map (λ (e : Entry). number_of e.op) entries k none))

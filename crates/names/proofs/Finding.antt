@@ -8,7 +8,7 @@ use native.Mathlib.Omega.{arith}
 use lib.ListN.{length, get_or, take, drop}
 use Rattle.names.specs.Names.{same}
 use Rattle.names.specs.Packed.{letters, lengths, most_letters, total}
-use Rattle.names.specs.declared.Place.TheVariants.{At}
+use Rattle.std.specs.Prelude.{Some}
 use Rattle.names.proofs.EndToEnd.{letters_count, names_count, none_longer}
 use Rattle.names.proofs.Packing.{search_from, as_long, not_as_long, found, next, other, within}
 
@@ -34,7 +34,7 @@ module _ (k m at : ℕ) (h : k < 83) (e : m ≡ get_or lengths k 0) (f : at + to
     pub reads_within : m ≡ n → at + length x ≤ length letters
     reads_within q = omega (arith, alike q, fits_after)
 
-    pub this_one : m ≡ n → same x (take (length x) (drop at letters)) ≡ true → search_from x letters lengths at k ≡ At k
+    pub this_one : m ≡ n → same x (take (length x) (drop at letters)) ≡ true → search_from x letters lengths at k ≡ Some k
     this_one q t = found x letters lengths at k m listed e (alike q) t
 
     pub not_this : m ≡ n → same x (take (length x) (drop at letters)) ≡ false → search_from x letters lengths at k ≡ search_from x letters lengths (at + m) (k + 1)

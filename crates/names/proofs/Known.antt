@@ -10,20 +10,17 @@ use lib.ListN.{get_or, take}
 use lib.Seq.{get_or-take, get_or-drop}
 use Rattle.laws.proofs.Tables.{at_each}
 use Rattle.operators.specs.Operators.{number_of}
-use Rattle.names.specs.Names.{Entry, entries, same, lookup}
-use Rattle.names.specs.Packed.{words, numbers_of, numbers, aliased, place_from}
-use Rattle.names.specs.declared.Named.{Named}
-use Rattle.names.specs.declared.Named.TheVariants.{Operator, Unknown}
-use Rattle.names.specs.declared.Place.{Place}
-use Rattle.names.specs.declared.Place.TheVariants.{At, Nowhere}
+use Rattle.names.specs.Names.{Entry, entries, key_of, same, lookup, from_name}
+use Rattle.names.specs.Packed.{words, numbers_of, numbers, letters, lengths, aliased, cut, place_from}
+use Rattle.names.proofs.EndToEnd.{names_packed}
+use Rattle.std.specs.Prelude.{Option, Some, option_map}
 
 -- what is known where the search answered a place
-abbrev pub at_place : Place → Named
-at_place (At k) = Operator (get_or numbers k 0)
-at_place Nowhere = Unknown
+abbrev pub at_place : Option ℕ → Option ℕ
+at_place p = option_map (λ (k : ℕ). get_or numbers k 0) p
 
-chosen : (b : Bool) (i m : ℕ) (p : Place) (r : Named) → get_or numbers i 0 ≡ m → at_place p ≡ r → at_place (cond b (At i) p) ≡ cond b (Operator m) r
-chosen true i m p r e q = ap Operator e
+chosen : (b : Bool) (i m : ℕ) (p : Option ℕ) (r : Option ℕ) → get_or numbers i 0 ≡ m → at_place p ≡ r → at_place (cond b (Some i) p) ≡ cond b (Some m) r
+chosen true i m p r e q = ap Some e
 chosen false i m p r e q = q
 
 by_place : (x : List ℕ) (es : List Entry) (i : ℕ) → ((j : ℕ) → get_or numbers (i + j) 0 ≡ get_or (numbers_of es) j 0) → at_place (place_from i x (words es)) ≡ lookup x es
@@ -37,6 +34,11 @@ by_place x (e ∷ es) i h =
 pub place_known : (x : List ℕ) → at_place (place_from 0 x (words entries)) ≡ lookup x entries
 unfolding numbers
 place_known x = by_place x entries 0 (λ j. rw zero-add)
+
+-- Cut at the lengths, the letters are the words of the list, so that the place that the search answers is that of the entry
+pub known : (s : List ℕ) → at_place (place_from 0 (key_of s) (cut lengths letters)) ≡ from_name s
+unfolding from_name
+known s = ap (λ (ws : List (List ℕ)). at_place (place_from 0 (key_of s) ws)) names_packed.0 ∙ place_known (key_of s)
 
 -- an operator's own name stands at its number, a test computed over the first 70
 pub own_place : (k : ℕ) → k < 70 → k ≡ get_or numbers k 0

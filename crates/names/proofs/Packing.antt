@@ -10,11 +10,10 @@ use lib.ListN.{length, get_or, take, drop, drop_of_length-le, length-drop}
 use lib.Seq.{drop-cons, drop-drop, length-take-le, take-nil, take_all}
 use Rattle.names.specs.Names.{same}
 use Rattle.names.specs.Packed.{total, cut, place_from}
-use Rattle.names.specs.declared.Place.{Place}
-use Rattle.names.specs.declared.Place.TheVariants.{At, Nowhere}
+use Rattle.std.specs.Prelude.{Option, Some, None}
 
 -- the search for a key x from the k-th word on, whose bytes begin at place i of bs
-abbrev pub search_from : List ℕ → List ℕ → List ℕ → ℕ → ℕ → Place
+abbrev pub search_from : List ℕ → List ℕ → List ℕ → ℕ → ℕ → Option ℕ
 search_from x bs ns i k = place_from k x (cut (drop k ns) (drop i bs))
 
 -- two lists of different lengths are not the same
@@ -40,7 +39,7 @@ module _ (x : List ℕ) (n m : ℕ) (h : n ≤ m) where
 
 -- n is the length of the k-th word
 module _ (x bs ns : List ℕ) (i k n : ℕ) (h : k < length ns) (e : n ≡ get_or ns k 0) where
-  pub found : length x ≡ n → same x (take (length x) (drop i bs)) ≡ true → search_from x bs ns i k ≡ At k
+  pub found : length x ≡ n → same x (take (length x) (drop i bs)) ≡ true → search_from x bs ns i k ≡ Some k
   found l t = rw (drop-cons ns k 0 h, ← e, rw l at t)
 
   passed : same x (take n (drop i bs)) ≡ false → search_from x bs ns i k ≡ search_from x bs ns (i + n) (k + 1)
@@ -61,5 +60,5 @@ within ns i k n m h e g =
     let t : total (drop k ns) ≡ n + total (drop (k + 1) ns) = rw (add-one, drop-cons ns k 0 h, ← e) in
     omega arith
 
-pub ended : (x bs ns : List ℕ) (i k : ℕ) → length ns ≤ k → search_from x bs ns i k ≡ Nowhere
+pub ended : (x bs ns : List ℕ) (i k : ℕ) → length ns ≤ k → search_from x bs ns i k ≡ None
 ended x bs ns i k h = rw (drop_of_length-le ns h)

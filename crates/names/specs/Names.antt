@@ -1,14 +1,12 @@
 -- The names of the operators and how a text is read as one: `name` (composite.rs 272 to 345) and `from_name` (composite.rs 351 to 376).
 -- Document 01: "'-', '_' and space are dropped, A to Z lowered, the rest must be one of the 70 names or 13 aliases of `from_name`".
 -- "Bytes that are no UTF-8 are an unknown name": such bytes have one of 128 or more, and every text that has one is unknown (`beyond_ascii`, proofs/Ascii).
-use Rattle.std.specs.Prelude.{Bool, true, false, cond, not, ◌||◌, ◌&&◌, List, [], ◌∷◌, ◌++◌, map, ℕ, ◌+◌, eqb, leb}
+use Rattle.std.specs.Prelude.{Option, Some, None, Bool, true, false, cond, not, ◌||◌, ◌&&◌, List, [], ◌∷◌, ◌++◌, map, ℕ, ◌+◌, eqb, leb}
 use Prim.Native.Char.{code}
 use Prim.Native.String.{String, [] as no_text, ◌∷◌ as ◌then◌}
 use Rattle.operators.specs.Operators.{line, number_of, operators}
 use Rattle.operators.specs.declared.CompositeOp.{CompositeOp}
 use Rattle.operators.specs.declared.CompositeOp.TheVariants as O
-use Rattle.names.specs.declared.Named.{Named}
-use Rattle.names.specs.declared.Named.TheVariants.{Operator, Unknown}
 
 -- the bytes of a text of ASCII characters
 abbrev pub bytes : String → List ℕ
@@ -66,9 +64,9 @@ same (a ∷ xs) [] = false
 same (a ∷ xs) (b ∷ ys) = eqb a b && same xs ys
 
 -- the operator of the first entry whose word is the key
-abbrev pub lookup : List ℕ → List Entry → Named
-lookup k [] = Unknown
-lookup k (e ∷ es) = cond (same k e.word) (Operator (number_of e.op)) (lookup k es)
+abbrev pub lookup : List ℕ → List Entry → Option ℕ
+lookup k [] = None
+lookup k (e ∷ es) = cond (same k e.word) (Some (number_of e.op)) (lookup k es)
 
-unfoldable pub from_name : List ℕ → Named
+unfoldable pub from_name : List ℕ → Option ℕ
 from_name s = lookup (key_of s) entries

@@ -1,10 +1,8 @@
 -- Document 02, A.4: the 83 names "end to end in one list of bytes, each once, beside their lengths: cut at these, the list gives the 83 names with nothing
 -- left over" (`names_packed`, proofs/EndToEnd). And how the code keeps such a list, in numbers of eight bytes. Definitions only.
-use Rattle.std.specs.Prelude.{cond, List, [], ◌∷◌, ◌++◌, map, ℕ, zero, suc, ◌+◌, ◌*◌, ◌/◌, ◌%◌, ◌^◌, length, take, drop}
+use Rattle.std.specs.Prelude.{Option, Some, None, cond, List, [], ◌∷◌, ◌++◌, map, ℕ, zero, suc, ◌+◌, ◌*◌, ◌/◌, ◌%◌, ◌^◌, length, take, drop}
 use Rattle.operators.specs.Operators.{number_of}
 use Rattle.names.specs.Names.{Entry, entries, aliases, same}
-use Rattle.names.specs.declared.Place.{Place}
-use Rattle.names.specs.declared.Place.TheVariants.{At, Nowhere}
 
 -- the words, and the operators' numbers
 abbrev pub words : List Entry → List (List ℕ)
@@ -46,9 +44,9 @@ cut [] bs = []
 cut (n ∷ ns) bs = take n bs ∷ cut ns (drop n bs)
 
 -- the place, counted from i, of the first word that is the key
-abbrev pub place_from : ℕ → List ℕ → List (List ℕ) → Place
-place_from i k [] = Nowhere
-place_from i k (w ∷ ws) = cond (same k w) (At i) (place_from (suc i) k ws)
+abbrev pub place_from : ℕ → List ℕ → List (List ℕ) → Option ℕ
+place_from i k [] = None
+place_from i k (w ∷ ws) = cond (same k w) (Some i) (place_from (suc i) k ws)
 
 -- the first n bytes of a list as one number, the first the lowest; past the list's end they are 0
 abbrev pub value_of : ℕ → List ℕ → ℕ

@@ -2,6 +2,7 @@
 // operators. Each stands in eights, numbers of eight bytes, the first byte lowest, in a match over their places. Of the first two matches the compiler makes
 // tables in read-only memory, which hold the lists byte for byte, and of the third two constants; a list in quotes or brackets it would write into the
 // function's own memory at each call (docs/DECISIONS.md 31). tools/packed-names prints the arms.
+// They stay in matches: the library is to have their bytes once, in read-only memory, and of a list in another form the compiler does not make that.
 // The contracts cite specs/Packed, whose lists are made from the readable one of specs/Names. Assumes nothing.
 ghost use Rattle.std.specs.Prelude.{◌≡◌, ◌<◌, get_or};
 ghost use Rattle.names.specs.Packed.{letters, lengths, aliased, eight_of, byte_of};
@@ -136,6 +137,8 @@ fn byte(w: u64, i: usize) -> u8
     ((w >> shift) % 256) as u8
 }
 
+// The three lists are read alike, a line each: a trait over them would take more lines than it joined.
+
 // The letter at a place of the list.
 pub fn letter(at: usize) -> u8
     ensures { result ≡ get_or letters at 0 }
@@ -147,12 +150,12 @@ pub fn letter(at: usize) -> u8
 pub fn length_of(k: usize) -> usize
     ensures { result ≡ get_or lengths k 0 }
 {
-    byte(eight_lengths(k / 8), k % 8) as usize
+    usize::from(byte(eight_lengths(k / 8), k % 8))
 }
 
 // The number of the k-th alias's operator.
 pub fn alias(k: usize) -> u64
     ensures { result ≡ get_or aliased k 0 }
 {
-    byte(eight_aliased(k / 8), k % 8) as u64
+    u64::from(byte(eight_aliased(k / 8), k % 8))
 }

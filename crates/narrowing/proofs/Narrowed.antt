@@ -1,11 +1,11 @@
 -- The words of a narrowed picture: how many they are, and which one stands where. Assumes nothing.
 use mathlib.Core.Path.{◌≡◌, refl, sym, ap, ◌∙◌}
-use mathlib.Core.List.{List, [], ◌∷◌, ◌++◌}
+use mathlib.Core.List.{List, [], ◌∷◌, ◌++◌, map}
 use mathlib.Core.Logic.{◌⊎◌, inl, inr, ⊎_elim}
 use Prim.Native.Nat.{ℕ, zero, suc, ◌+◌, ◌*◌, ◌/◌, ◌%◌, ◌<◌, ◌≤◌}
 use native.Mathlib.Nat.{zero-mul, suc-mul, zero-add, add-zero, mul-one, add_comm, div-add-mod', mod-lt, div-lt_iff_lt-mul}
 use native.Mathlib.Omega.{arith}
-use lib.ListN.{length, get_or, length-append, get_or-append}
+use lib.ListN.{length, get_or, length-append, length-map, get_or-append}
 use lib.Seq.{get_or-append-add, get_or-take}
 use Rattle.float_steps.specs.Words.{word_of}
 use Rattle.pictures.specs.declared.Words.{Words}
@@ -23,7 +23,7 @@ length_pixel k w (inl e) = rw e
 length_pixel k w (inr (inl e)) = rw e
 length_pixel k w (inr (inr e)) = rw e
 
-pub length_narrowed : (k : ℕ) (input : List ℕ) → Channels k → length (narrowed_of k input) ≡ length input / 4 * k
+length_narrowed : (k : ℕ) (input : List ℕ) → Channels k → length (narrowed_of k input) ≡ length input / 4 * k
 unfolding narrowed_of
 length_narrowed k [] h = sym (zero-mul k)
 length_narrowed k (r ∷ []) h = sym (zero-mul k)
@@ -35,6 +35,10 @@ length_narrowed k (r ∷ g ∷ b ∷ a ∷ rest) h =
   where
     one_more : (n : ℕ) → (suc (suc (suc (suc n)))) / 4 ≡ suc (n / 4)
     one_more n = omega arith
+
+-- so many are also the samples made of them
+pub length_made : {A : Type 0} (of : ℕ → A) (k : ℕ) (input : List ℕ) → Channels k → length (map of (narrowed_of k input)) ≡ length input / 4 * k
+length_made of k input h = length-map (narrowed_of k input) of ∙ length_narrowed k input h
 
 -- ---- which one stands where
 

@@ -1,3 +1,2 @@
 pub mod Luma
 pub mod Narrow
-pub mod Steps

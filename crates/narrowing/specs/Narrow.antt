@@ -1,7 +1,7 @@
 -- Narrowing a picture of four channels: `to_channels` (deep.rs 373 to 397) on words, `narrow_u8` (deep.rs 857 to 874) after it, and
 -- document 01's refusal NARROW. Document 01: gray output uses `luma`, and a gray that comes out NaN is stored as 7FC00000; a channel narrowed
 -- without `luma` is copied with all its bits; bytes as `narrow_u8`; a refusal writes nothing. Definitions only.
-use Rattle.std.specs.Prelude.{cond, not, ◌||◌, List, [], ◌∷◌, ◌++◌, map, ℕ, ◌*◌, ◌/◌, ◌%◌, eqb, ℤ, length}
+use Rattle.std.specs.Prelude.{Bool, cond, not, ◌||◌, List, [], ◌∷◌, ◌++◌, map, ℕ, ◌*◌, ◌/◌, ◌%◌, eqb, ℤ, length}
 use Rattle.float_steps.specs.Whole.{byte_of}
 use Rattle.float_steps.specs.Words.{value_of, word_of}
 use Rattle.faults.specs.Faults.{NONE, NARROW}
@@ -33,10 +33,12 @@ bytes_of words = map (λ w. byte_of (value_of w)) words
 
 -- ---- the outcome
 
--- the fault, for the lengths of the input and of the output
+-- NARROW, for the lengths of the input and of the output
+unfoldable pub bad_narrowing : ℤ → ℕ → ℕ → Bool
+bad_narrowing wanted input output = bad_channels wanted || not (eqb (input % 4) 0) || not (eqb output (input / 4 * nat_of wanted))
+
 unfoldable pub narrow_fault : ℤ → ℕ → ℕ → ℕ
-narrow_fault wanted input output =
-    cond (bad_channels wanted || not (eqb (input % 4) 0) || not (eqb output (input / 4 * nat_of wanted))) NARROW NONE
+narrow_fault wanted input output = cond (bad_narrowing wanted input output) NARROW NONE
 
 -- the number that is answered and the whole output
 pub record Narrowed : Type 0 where
@@ -47,8 +49,11 @@ abbrev pub narrowed : ℕ → List ℕ → Narrowed
 narrowed number output = record { number = number; output = output }
 
 -- the output is new where there is no fault, and as it was where there is one
+abbrev pub written_unless : {A : Type 0} → (fault : ℕ) → (new old : List A) → List A
+written_unless fault new old = cond (eqb fault NONE) new old
+
 unfoldable pub narrowed_unless : ℕ → List ℕ → List ℕ → Narrowed
-narrowed_unless fault new old = narrowed fault (cond (eqb fault NONE) new old)
+narrowed_unless fault new old = narrowed fault (written_unless fault new old)
 
 -- the input narrowed into the output, as words and as bytes
 abbrev pub narrow_of : ℤ → List ℕ → List ℕ → Narrowed

@@ -11,16 +11,14 @@ use lib.ListN.{length}
 use borrow.Author.Tests.{ltb-true, leb-true, leb-false, eqb-true, eqb-false, lt-ltb, le-leb, lt-leb, ne_eqb, not-true}
 use Rattle.numerals.specs.Digits.{digit_of, char_of, value_from, are_digits, digits_from, number_in}
 use Rattle.numerals.specs.Numbers.{unsigned_text, decimal_text, is_decimal, hex_text, is_word, leads, unsigned_of, plus, minus, decimal_of, hex_of}
-use Rattle.numerals.specs.declared.Integer.TheVariants as I
-use Rattle.numerals.specs.declared.Number.{Number}
-use Rattle.numerals.specs.declared.Number.TheVariants.{Of, Not}
+use Rattle.std.specs.Prelude.{Option, Some, None}
 use Rattle.numerals.proofs.Bools.{split, and_true, or_false}
 use Rattle.numerals.proofs.Inverse.{digit_char, char_digit, read_printed, printed_read}
 
 -- what a cond that answers a number says of its test
-pub of_cond : (b : Bool) (r : Number) (n : ℕ) → cond b r Not ≡ Of n → (b ≡ true) × (r ≡ Of n)
+pub of_cond : (b : Bool) (r : Option ℕ) (n : ℕ) → cond b r None ≡ Some n → (b ≡ true) × (r ≡ Some n)
 of_cond true r n e = (refl, e)
-of_cond false r n e = let z : ◌≡◌ {A = ℕ} 0 1 = cc in absurd (omega arith)
+of_cond false r n e = absurd (cc)
 
 -- printed digits are digits, and so many at the most
 module _ (padded : Bool) (base : ℕ) (based : 0 < base) (small : base ≤ 16) where
@@ -38,9 +36,9 @@ module _ (padded : Bool) (base : ℕ) (based : 0 < base) (small : base ≤ 16) w
       (λ e. rw e (omega (arith, printed_most k (n / base) (char_of (n % base) ∷ bs))))
       (λ e. rw e (omega arith))
 
-  pub number_there : (k n : ℕ) → n < base ^ k → number_in base (digits_from padded base k n []) ≡ Of n
+  pub number_there : (k n : ℕ) → n < base ^ k → number_in base (digits_from padded base k n []) ≡ Some n
   unfolding number_in
-  number_there k n h = rw (printed_digits k n [] refl) (ap Of (read_printed padded base based small k n [] h))
+  number_there k n h = rw (printed_digits k n [] refl) (ap Some (read_printed padded base based small k n [] h))
 
 pub value_most : (base : ℕ) (bs : List ℕ) (k n : ℕ) → are_digits base bs ≡ true → n < base ^ k → value_from base n bs < base ^ (k + length bs)
 value_most base [] k n h g = rw add-zero g
@@ -51,11 +49,11 @@ value_most base (b ∷ bs) k n h g =
     (rw pow-suc (omega (arith, ltb-true (digit_of b) base p.0, rw suc-mul at (mul-le-mul_right base g)))))
 
 -- what a text that is read as a number is
-pub number_back : (base : ℕ) (s : List ℕ) (n : ℕ) → number_in base s ≡ Of n → (are_digits base s ≡ true) × (value_from base 0 s ≡ n)
+pub number_back : (base : ℕ) (s : List ℕ) (n : ℕ) → number_in base s ≡ Some n → (are_digits base s ≡ true) × (value_from base 0 s ≡ n)
 unfolding number_in
 number_back base s n e =
-    let p = of_cond (are_digits base s) (Of (value_from base 0 s)) n e in
-    let q : Of (value_from base 0 s) ≡ Of n = p.1 in
+    let p = of_cond (are_digits base s) (Some (value_from base 0 s)) n e in
+    let q : Some (value_from base 0 s) ≡ Some n = p.1 in
     (p.0, cc)
 
 -- the bytes that a number may have: a minus, or a digit of some base
@@ -71,7 +69,7 @@ digits_spelling base (b ∷ s) k h =
     rw (lt-ltb (digit_of b) 16 (omega arith), or-true (eqb b 45)) (digits_spelling base s k p.1)
 
 -- the eight digits of a word
-pub hex_there : (w : ℕ) → is_word w ≡ true → hex_of (hex_text w) ≡ Of w
+pub hex_there : (w : ℕ) → is_word w ≡ true → hex_of (hex_text w) ≡ Some w
 unfolding hex_of is_word
 hex_there w h = number_there true 16 (omega arith) (omega arith) 8 w (ltb-true _ _ h)
 
@@ -80,7 +78,7 @@ pub record Word (s : List ℕ) (w : ℕ) : Type 0 where
   pub small : w < 0x1_0000_0000
   pub bytes : spelling s ≡ true
 
-pub hex_back : (s : List ℕ) (w : ℕ) → hex_of s ≡ Of w → Word s w
+pub hex_back : (s : List ℕ) (w : ℕ) → hex_of s ≡ Some w → Word s w
 unfolding hex_of
 hex_back s w e =
     let p = of_cond (eqb (length s) 8) (number_in 16 s) w e in
@@ -120,13 +118,13 @@ leads_text : (n : ℕ) → n < 10 ^ 10 → leads (unsigned_text n) ≡ true
 leads_text zero h = refl
 leads_text (suc n) h = leads_printed 10 (suc n) [] (omega arith) h
 
-pub unsigned_there : (n : ℕ) → n < 10 ^ 10 → unsigned_of (unsigned_text n) ≡ Of n
+pub unsigned_there : (n : ℕ) → n < 10 ^ 10 → unsigned_of (unsigned_text n) ≡ Some n
 unfolding unsigned_of
 unsigned_there n h =
     given (unsigned_text n) (le-leb (length (unsigned_text n)) 10 (printed_most false 10 (omega arith) (omega arith) 10 n [])) (leads_text n h)
     (number_there false 10 (omega arith) (omega arith) 10 n h)
   where
-    given : (s : List ℕ) → leb (length s) 10 ≡ true → leads s ≡ true → {r : Number} → number_in 10 s ≡ r → unsigned_of s ≡ r
+    given : (s : List ℕ) → leb (length s) 10 ≡ true → leads s ≡ true → {r : Option ℕ} → number_in 10 s ≡ r → unsigned_of s ≡ r
     given s a b e = rw (a, b) e
 
 -- .. whose digits were read: the fuel is a variable here, because at a numeral the printer computes out into all its tests
@@ -146,7 +144,7 @@ again_on k b [] h d l = rw add-zero (first b k [] h)
 again_on k b (c ∷ cs) h d l = printed_read false 10 (omega arith) (omega arith) (c ∷ cs) (suc k) (digit_of b) d (some_digit b h l) ∙ first b k (c ∷ cs) h
 
 again : (s : List ℕ) → length s ≤ 10 → leads s ≡ true → are_digits 10 s ≡ true → unsigned_text (value_from 10 0 s) ≡ s
-again [] l h d = let z : ◌≡◌ {A = ℕ} 0 1 = cc in absurd (omega arith)
+again [] l h d = absurd (cc)
 again (b ∷ bs) l h d =
     let p = and_true (ltb (digit_of b) 10) (are_digits 10 bs) d in
     let k : 10 ≡ suc (9 - length bs) + length bs = omega arith in
@@ -155,7 +153,7 @@ again (b ∷ bs) l h d =
     ∙ ap (λ (m : ℕ). digits_from false 10 m (value_from 10 (digit_of b) bs) []) k
     ∙ again_on (9 - length bs) b bs (ltb-true (digit_of b) 10 p.0) p.1 h
 
-pub unsigned_back : (s : List ℕ) (n : ℕ) → unsigned_of s ≡ Of n → (unsigned_text n ≡ s) × (n < 10 ^ 10) × (are_digits 10 s ≡ true)
+pub unsigned_back : (s : List ℕ) (n : ℕ) → unsigned_of s ≡ Some n → (unsigned_text n ≡ s) × (n < 10 ^ 10) × (are_digits 10 s ≡ true)
 unfolding unsigned_of
 unsigned_back s n e =
     let p = of_cond (leb (length s) 10 && leads s) (number_in 10 s) n e in
@@ -179,7 +177,7 @@ after_minus : (s : List ℕ) → decimal_of (45 ∷ s) ≡ minus (unsigned_of s)
 unfolding decimal_of
 after_minus s = refl
 
-pub decimal_there : (z : ℤ) → is_decimal z ≡ true → decimal_of (decimal_text z) ≡ I.Of z
+pub decimal_there : (z : ℤ) → is_decimal z ≡ true → decimal_of (decimal_text z) ≡ Some z
 unfolding decimal_text is_decimal
 decimal_there (pos n) h =
     no_minus (unsigned_text n) (printed_digits false 10 (omega arith) (omega arith) 10 n [] refl) ∙ ap plus (unsigned_there n (ltb-true _ _ h))
@@ -191,26 +189,26 @@ pub record Decimal (s : List ℕ) (z : ℤ) : Type 0 where
   pub few : is_decimal z ≡ true
   pub bytes : spelling s ≡ true
 
-minus_back : (r : Number) (s : List ℕ) (z : ℤ) → unsigned_of s ≡ r → minus r ≡ I.Of z → Decimal (45 ∷ s) z
+minus_back : (r : Option ℕ) (s : List ℕ) (z : ℤ) → unsigned_of s ≡ r → minus r ≡ Some z → Decimal (45 ∷ s) z
 unfolding decimal_text is_decimal
-minus_back Not s z q e = let x : ◌≡◌ {A = ℕ} 0 1 = cc in absurd (omega arith)
-minus_back (Of zero) s z q e = let x : ◌≡◌ {A = ℕ} 0 1 = cc in absurd (omega arith)
-minus_back (Of (suc n)) s z q e =
+minus_back None s z q e = absurd (cc)
+minus_back (Some zero) s z q e = absurd (cc)
+minus_back (Some (suc n)) s z q e =
     let i : negsuc n ≡ z = cc in
     let p = unsigned_back s (suc n) q in
     rw (← i) (record { text = ap (λ (t : List ℕ). 45 ∷ t) p.0; few = lt-ltb _ _ p.1; bytes = digits_spelling 10 s (omega arith) p.2 })
 
-plus_back : (r : Number) (s : List ℕ) (z : ℤ) → unsigned_of s ≡ r → plus r ≡ I.Of z → Decimal s z
+plus_back : (r : Option ℕ) (s : List ℕ) (z : ℤ) → unsigned_of s ≡ r → plus r ≡ Some z → Decimal s z
 unfolding decimal_text is_decimal
-plus_back Not s z q e = let x : ◌≡◌ {A = ℕ} 0 1 = cc in absurd (omega arith)
-plus_back (Of n) s z q e =
+plus_back None s z q e = absurd (cc)
+plus_back (Some n) s z q e =
     let i : pos n ≡ z = cc in
     let p = unsigned_back s n q in
     rw (← i) (record { text = p.0; few = lt-ltb _ _ p.1; bytes = digits_spelling 10 s (omega arith) p.2 })
 
-pub decimal_back : (s : List ℕ) (z : ℤ) → decimal_of s ≡ I.Of z → Decimal s z
+pub decimal_back : (s : List ℕ) (z : ℤ) → decimal_of s ≡ Some z → Decimal s z
 unfolding decimal_of
-decimal_back [] z e = let x : ◌≡◌ {A = ℕ} 0 1 = cc in absurd (omega arith)
+decimal_back [] z e = absurd (cc)
 decimal_back (b ∷ bs) z e =
     split (eqb b 45)
     (λ t. rw (eqb-true b 45 t) (minus_back (unsigned_of bs) bs z refl (rw t at e)))

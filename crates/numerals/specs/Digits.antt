@@ -1,7 +1,5 @@
 -- Numbers as text in a base of at most 16: digits 0 to 9 and a to f, the most significant first. One printer and one reader for every base. Definitions only.
-use Rattle.std.specs.Prelude.{Bool, true, cond, ◌||◌, ◌&&◌, List, [], ◌∷◌, ℕ, zero, suc, ◌+◌, ◌*◌, ◌-◌, ◌/◌, ◌%◌, leb, ltb}
-use Rattle.numerals.specs.declared.Number.{Number}
-use Rattle.numerals.specs.declared.Number.TheVariants.{Of, Not}
+use Rattle.std.specs.Prelude.{Option, Some, None, Bool, true, cond, ◌||◌, ◌&&◌, List, [], ◌∷◌, ℕ, zero, suc, ◌+◌, ◌*◌, ◌-◌, ◌/◌, ◌%◌, leb, ltb}
 
 -- the byte of a digit
 unfoldable pub char_of : ℕ → ℕ
@@ -28,5 +26,5 @@ value_from base n [] = n
 value_from base n (b ∷ bs) = value_from base (n * base + digit_of b) bs
 
 -- a text of digits, read
-unfoldable pub number_in : ℕ → List ℕ → Number
-number_in base bs = cond (are_digits base bs) (Of (value_from base 0 bs)) Not
+unfoldable pub number_in : ℕ → List ℕ → Option ℕ
+number_in base bs = cond (are_digits base bs) (Some (value_from base 0 bs)) None

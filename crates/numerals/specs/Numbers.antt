@@ -1,11 +1,7 @@
 -- The numbers of a card (document 02, A.2): "decimal, of at most ten digits, without leading zeros or a minus before 0", and words as "eight small
 -- hexadecimal digits". Each as it is printed, and as it is read. Definitions only.
-use Rattle.std.specs.Prelude.{Bool, true, false, cond, not, ◌&&◌, List, [], ◌∷◌, ℕ, zero, suc, ◌^◌, eqb, leb, ltb, ℤ, pos, negsuc, length}
+use Rattle.std.specs.Prelude.{Option, Some, None, Bool, true, false, cond, not, ◌&&◌, List, [], ◌∷◌, ℕ, zero, suc, ◌^◌, eqb, leb, ltb, ℤ, pos, negsuc, length}
 use Prim.Native.Char.{code}
-use Rattle.numerals.specs.declared.Integer.{Integer}
-use Rattle.numerals.specs.declared.Integer.TheVariants as I
-use Rattle.numerals.specs.declared.Number.{Number}
-use Rattle.numerals.specs.declared.Number.TheVariants.{Of, Not}
 use Rattle.numerals.specs.Digits.{digits_from, number_in}
 
 -- ---- printed
@@ -44,22 +40,22 @@ leads [] = false
 leads (b ∷ []) = true
 leads (b ∷ c ∷ bs) = not (eqb b (code "0"))
 
-unfoldable pub unsigned_of : List ℕ → Number
-unsigned_of bs = cond (leb (length bs) most_digits && leads bs) (number_in 10 bs) Not
+unfoldable pub unsigned_of : List ℕ → Option ℕ
+unsigned_of bs = cond (leb (length bs) most_digits && leads bs) (number_in 10 bs) None
 
-abbrev pub plus : Number → Integer
-plus (Of n) = I.Of (pos n)
-plus Not = I.Not
+abbrev pub plus : Option ℕ → Option ℤ
+plus (Some n) = Some (pos n)
+plus None = None
 
 -- a minus stands before any number but 0
-abbrev pub minus : Number → Integer
-minus (Of zero) = I.Not
-minus (Of (suc n)) = I.Of (negsuc n)
-minus Not = I.Not
+abbrev pub minus : Option ℕ → Option ℤ
+minus (Some zero) = None
+minus (Some (suc n)) = Some (negsuc n)
+minus None = None
 
-unfoldable pub decimal_of : List ℕ → Integer
-decimal_of [] = I.Not
+unfoldable pub decimal_of : List ℕ → Option ℤ
+decimal_of [] = None
 decimal_of (b ∷ bs) = cond (eqb b (code "-")) (minus (unsigned_of bs)) (plus (unsigned_of (b ∷ bs)))
 
-unfoldable pub hex_of : List ℕ → Number
-hex_of bs = cond (eqb (length bs) word_digits) (number_in 16 bs) Not
+unfoldable pub hex_of : List ℕ → Option ℕ
+hex_of bs = cond (eqb (length bs) word_digits) (number_in 16 bs) None

@@ -11,9 +11,8 @@ use Rattle.operators.specs.Numbers.{named, op_of}
 use Rattle.operators.specs.Listed.{NoneBelow, ListedAt}
 use Rattle.operators.specs.declared.CompositeOp.{CompositeOp}
 use Rattle.operators.specs.declared.CompositeOp.TheVariants.{Interpolate, Blur}
-use Rattle.operators.specs.declared.Numbered.TheVariants.{Op, Unknown, Curve}
-use Rattle.operators.specs.declared.table.Listed.{Listed}
-use Rattle.operators.specs.declared.table.Listed.TheVariants.{At, Past}
+use Rattle.std.specs.Prelude.{Option, Some, None, Ok, Err}
+use Rattle.faults.specs.declared.Fault.TheVariants.{Operator, Curve}
 use Rattle.operators.proofs.Places.{at_number, number_below, one_number}
 
 -- a number that is none of those below k is not below k
@@ -24,14 +23,14 @@ past (suc k) n h =
     let d : n ≡ k → ⊥ = h.1 in
     omega arith
 
-module _ (n : ℕ) (r : Listed) (is : ListedAt n r) where
-  pub found : {o : CompositeOp} → r ≡ At o → named o ≡ op_of (pos n)
+module _ (n : ℕ) (r : Option CompositeOp) (is : ListedAt n r) where
+  pub found : {o : CompositeOp} → r ≡ Some o → named o ≡ op_of (pos n)
   found {o} e =
       let k : n ≡ number_of o = rw e at is in
       rw (k, lt-ltb (number_of o) count (number_below o), at_number o)
 
   -- the refused range
-  pub refused : r ≡ Past → Unknown ≡ op_of (pos n)
+  pub refused : r ≡ None → Err Operator ≡ op_of (pos n)
   refused e = rw (le-ltb n count (past count n (rw e at is)))
 
 -- an operator other than p is not p
@@ -39,11 +38,11 @@ other : (o p : CompositeOp) → (o ≡ p → ⊥) → same_op o p ≡ false
 other o p h = ne_eqb (number_of o) (number_of p) (λ e. h (one_number o p e))
 
 -- what the number of a carried operator names, and that of the others
-pub not_carried : (o : CompositeOp) → (o ≡ Interpolate) ⊎ (o ≡ Blur) → Curve ≡ named o
+pub not_carried : (o : CompositeOp) → (o ≡ Interpolate) ⊎ (o ≡ Blur) → Err Curve ≡ named o
 unfolding named
 not_carried o (inl e) = rw e
 not_carried o (inr e) = rw e
 
-pub carried : (o : CompositeOp) → (o ≡ Interpolate → ⊥) → (o ≡ Blur → ⊥) → Op o ≡ named o
+pub carried : (o : CompositeOp) → (o ≡ Interpolate → ⊥) → (o ≡ Blur → ⊥) → Ok o ≡ named o
 unfolding named
 carried o h k = rw (other o Interpolate h, other o Blur k)

@@ -8,8 +8,10 @@ ghost use Rattle.operators.specs.Numbers.{named, op_of};
 
 mod table;
 
+use faults::Fault;
+
 // A compositing operator, in the order of `CompositeOp::ALL`.
-#[derive(Clone, Copy)]
+#[derive(Clone, Copy, Debug, PartialEq, Eq)]
 pub enum CompositeOp {
     Over,
     In,
@@ -84,21 +86,12 @@ pub enum CompositeOp {
 }
 
 // How an operator combines its blend with the alphas, `Convention` (composite.rs 909 to 914); specs/Operators says which does how.
-#[derive(Clone, Copy)]
+#[derive(Clone, Copy, Debug, PartialEq, Eq)]
 pub enum Convention {
     Premult,
     Divided,
     OnPremult,
     PremultOnly,
-}
-
-// What a number of a layer's row names: an operator that is carried; nothing (fault 3, OPERATOR);
-// or Interpolate or Blur, which are not carried (fault 4, CURVE).
-#[derive(Clone, Copy)]
-pub enum Numbered {
-    Op(CompositeOp),
-    Unknown,
-    Curve,
 }
 
 impl CompositeOp {
@@ -181,32 +174,33 @@ impl CompositeOp {
         ensures { result ≡ op_at n }
     {
         if n < Self::ALL.len() {
-            return Self::ALL[n];
+            Self::ALL[n]
+        } else {
+            CompositeOp::Over
         }
-        CompositeOp::Over
     }
 
-    // What a number names.
-    pub fn from_number(n: i64) -> Numbered
+    // What a number of a layer's row names: an operator; or the fault OPERATOR, where no operator has it, or CURVE.
+    pub fn from_number(n: i64) -> Result<CompositeOp, Fault>
         ensures { result ≡ op_of n }
     {
         if n < 0 {
-            return Numbered::Unknown;
+            return Err(Fault::Operator);
         }
         match table::lookup(n as u64) {
-            table::Listed::At(op) => op.named(),
-            table::Listed::Past => Numbered::Unknown,
+            Some(op) => op.carried(),
+            None => Err(Fault::Operator),
         }
     }
 
-    // What the number of this operator names: Interpolate and Blur are not carried (document 01, CURVE).
+    // The operator; or the fault CURVE where it is one of the two that are not carried.
     #[tactic(auto, using(crate::proofs::Numbers::not_carried, crate::proofs::Numbers::carried))]
-    fn named(self) -> Numbered
+    fn carried(self) -> Result<CompositeOp, Fault>
         ensures { result ≡ named self }
     {
         match self {
-            CompositeOp::Interpolate | CompositeOp::Blur => Numbered::Curve,
-            _ => Numbered::Op(self),
+            CompositeOp::Interpolate | CompositeOp::Blur => Err(Fault::Curve),
+            _ => Ok(self),
         }
     }
 
@@ -248,9 +242,9 @@ impl CompositeOp {
     pub fn is_map(self) -> bool
         ensures { result ≡ is_map self }
     {
-        match self {
-            CompositeOp::Displace | CompositeOp::Distort | CompositeOp::Blur => true,
-            _ => false,
-        }
+        matches!(
+            self,
+            CompositeOp::Displace | CompositeOp::Distort | CompositeOp::Blur
+        )
     }
 }

@@ -9,7 +9,7 @@ use Rattle.float_steps.specs.Axis.{axis_of}
 use Rattle.float_steps.specs.declared.axis.Axis.{Axis}
 use Rattle.float_steps.proofs.AxisInside.{axis_inside}
 use Rattle.pictures.specs.Steps.{InPicture}
-use native.Mathlib.Nat.{mul-le-mul_left, mul-le-mul_right, mul-one, one-mul, suc-mul, mul_comm}
+use native.Mathlib.Nat.{mul-le-mul_left, mul-le-mul_right, mul-one, suc-mul, mul_comm}
 
 -- column x of row y, in a picture of w by h pixels
 pub pixel_inside : (w h x y : ℕ) → x < w → y < h → y * w + x < w * h
@@ -40,11 +40,3 @@ in_picture picture c w h x y a b some most i is j js whole p q =
       lower = (axis_inside y h j js).1;
       whole = whole;
     }
-
--- a pixel before the end of a run, c words a pixel
-pub words_within : (c j n : ℕ) → j < n → c * j + c ≤ c * n
-words_within c j n a = rw (mul_comm c n) (words_inside c j n a)
-
--- a run of pixels is no longer than its words
-pub pixels_words : (c n : ℕ) → 1 ≤ c → n ≤ c * n
-pixels_words c n a = omega (arith, mul-le-mul_right n a, one-mul n)

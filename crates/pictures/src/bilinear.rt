@@ -1,6 +1,5 @@
 // Two of the three parts of `bilinear_into`: the four neighbours, and their mixture. Where, which the two axes say, is `locate` of the crate float_steps.
 ghost use Rattle.std.specs.Prelude.{◌≡◌, ◌+◌, ◌*◌, ◌≤◌, ◌<◌, length};
-ghost use Rattle.lent.specs.Lent.{before};
 ghost use Rattle.pictures.specs.Bilinear.{channels_of, neighbours_of, mixed_of, mix_of};
 ghost use Rattle.pictures.specs.Steps.{values_at, InPicture};
 

@@ -1,6 +1,5 @@
 // Pixels written into a lent list of words, four a pixel.
 ghost use Rattle.std.specs.Prelude.{◌≡◌, ◌+◌, ◌*◌, ◌≤◌, ◌<◌, length};
-ghost use Rattle.lent.specs.Lent.{before, after};
 ghost use Rattle.pictures.specs.Widen.{rgba_at};
 ghost use Rattle.pictures.specs.Steps.{filled, put_of};
 
@@ -10,7 +9,7 @@ use crate::widen::rgba_at;
 // Pixel i is replaced.
 pub fn put(out: &mut [u32], i: usize, w: Words)
     requires { 4 * i + 3 < length out.old }
-    ensures { after out ≡ put_of (before out) i w }
+    ensures { out.new ≡ put_of out.old i w }
 {
     let at = 4 * i;
     out[at] = w.r;
@@ -22,11 +21,9 @@ pub fn put(out: &mut [u32], i: usize, w: Words)
 // Pixels from .. from + count of a picture, widened, at the front of out.
 pub fn widen(picture: &[u32], channels: usize, from: usize, count: usize, out: &mut [u32])
     requires { (1 ≤ channels) × (channels ≤ 4) × (channels * (from + count) ≤ length picture.now) × (4 * count ≤ length out.old) }
-    ensures { after out ≡ filled (λ i. rgba_at picture.now channels (from + i)) count (before out) }
+    ensures { out.new ≡ filled (λ i. rgba_at picture.now channels (from + i)) count out.old }
 {
-    let mut i = 0;
-    while i < count {
+    for i in 0..count {
         put(out, i, rgba_at(picture, channels, from + i));
-        i += 1;
     }
 }

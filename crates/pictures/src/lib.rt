@@ -27,6 +27,16 @@ pub struct Rgba {
     pub a: f32,
 }
 
+impl Rgba {
+    // Transparent black.
+    pub const CLEAR: Rgba = Rgba {
+        r: 0.0,
+        g: 0.0,
+        b: 0.0,
+        a: 0.0,
+    };
+}
+
 // A picture's sides in pixels and its channels, as a caller gives them: any numbers.
 #[derive(Clone, Copy)]
 pub struct Shape {

@@ -14,10 +14,7 @@ impl Shape {
 pub fn natural(z: i64) -> usize
     ensures { result ≡ nat_of z }
 {
-    if z < 0 {
-        return 0;
-    }
-    z as usize
+    if z < 0 { 0 } else { z as usize }
 }
 
 // Whether a number is not from lo to hi.
@@ -25,10 +22,7 @@ pub fn natural(z: i64) -> usize
 pub fn outside(z: i64, lo: i64, hi: i64) -> bool
     ensures { result ≡ outside_z lo hi z }
 {
-    if z < lo {
-        return true;
-    }
-    hi < z
+    z < lo || hi < z
 }
 
 // Whether a number is none of 1, 3 and 4.
@@ -36,17 +30,7 @@ pub fn outside(z: i64, lo: i64, hi: i64) -> bool
 pub fn bad_channels(z: i64) -> bool
     ensures { result ≡ bad_channels z }
 {
-    if z < 0 {
-        return true;
-    }
-    let n = z as usize;
-    if n == 1 {
-        return false;
-    }
-    if n == 3 {
-        return false;
-    }
-    n != 4
+    z != 1 && z != 3 && z != 4
 }
 
 // Whether a side or the channels of a picture are out of their range.
@@ -54,13 +38,9 @@ pub fn bad_channels(z: i64) -> bool
 pub fn bad_shape(shape: Shape) -> bool
     ensures { result ≡ bad_shape shape }
 {
-    if outside(shape.width, 0, Shape::SIDE) {
-        return true;
-    }
-    if outside(shape.height, 0, Shape::SIDE) {
-        return true;
-    }
-    bad_channels(shape.channels)
+    outside(shape.width, 0, Shape::SIDE)
+        || outside(shape.height, 0, Shape::SIDE)
+        || bad_channels(shape.channels)
 }
 
 // A shape's numbers as unsigned ones.

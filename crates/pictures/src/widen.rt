@@ -1,6 +1,5 @@
 // `to_rgba` of one pixel, and the values of its words.
 ghost use Rattle.std.specs.Prelude.{◌≡◌, ◌+◌, ◌*◌, ◌≤◌, ◌<◌, length};
-ghost use Rattle.lent.specs.Lent.{before};
 ghost use Rattle.pictures.specs.Widen.{four_at, three_at, one_at, rgba_at, values_of};
 
 use crate::{Rgba, Words};
@@ -55,12 +54,12 @@ pub fn rgba_at(picture: &[u32], channels: usize, j: usize) -> Words
 {
     let at = channels * j;
     if channels == 4 {
-        return four_at(picture, at);
+        four_at(picture, at)
+    } else if channels == 3 {
+        three_at(picture, at)
+    } else {
+        one_at(picture, at)
     }
-    if channels == 3 {
-        return three_at(picture, at);
-    }
-    one_at(picture, at)
 }
 
 pub fn values(w: Words) -> Rgba

@@ -6,8 +6,8 @@ ghost use Rattle.operators.specs.declared.CompositeOp.TheVariants as O;
 ghost use Rattle.pixels.specs.Channel.{coloured_channel, within_fuzz, threshold_channel};
 ghost use Rattle.pixels.specs.Pixel.{pixel_of, intensity_of, gray_of, rmse_of, where_darker, hsl_at, coloured_by, coloured_of, matches, scaled_of, modulated_by, with_colour, unused};
 
-use crate::Params;
 use crate::conventions::{over_alpha, over_union};
+use crate::{Params, on_colours};
 use blends::conversions::{hsl_to_rgb, rgb_to_hsl};
 use blends::{Hsl, Rgb};
 use float_steps::order::unit;
@@ -52,15 +52,20 @@ pub fn where_darker(x: Rgba, y: Rgba, s: Rgba, d: Rgba) -> Rgba
     ensures { result ≡ where_darker x y s d }
 {
     if intensity(x) * x.a < intensity(y) * y.a {
-        return s;
+        s
+    } else {
+        d
     }
-    d
 }
 
 fn hsl_at(p: Rgba) -> Hsl
     ensures { result ≡ hsl_at p }
 {
-    rgb_to_hsl(p.r, p.g, p.b)
+    rgb_to_hsl(Rgb {
+        r: p.r,
+        g: p.g,
+        b: p.b,
+    })
 }
 
 fn coloured_channel(v: f32, d: f32, sa: f32, da: f32) -> f32
@@ -96,51 +101,32 @@ pub fn coloured(h: Rgba, sat: Rgba, l: Rgba, s: Rgba, d: Rgba) -> Rgba
     coloured_by(hsl_to_rgb(c), s, d)
 }
 
+// Four functions copy a channel each: they differ in a field's name, which is no parameter.
 // CopyCyan on an RGB picture too.
 pub fn copy_red(s: Rgba, d: Rgba) -> Rgba
     ensures { result ≡ pixel_of O.CopyRed unused s d }
 {
-    Rgba {
-        r: s.r,
-        g: d.g,
-        b: d.b,
-        a: d.a,
-    }
+    Rgba { r: s.r, ..d }
 }
 
 // CopyMagenta on an RGB picture too.
 pub fn copy_green(s: Rgba, d: Rgba) -> Rgba
     ensures { result ≡ pixel_of O.CopyGreen unused s d }
 {
-    Rgba {
-        r: d.r,
-        g: s.g,
-        b: d.b,
-        a: d.a,
-    }
+    Rgba { g: s.g, ..d }
 }
 
 // CopyYellow on an RGB picture too.
 pub fn copy_blue(s: Rgba, d: Rgba) -> Rgba
     ensures { result ≡ pixel_of O.CopyBlue unused s d }
 {
-    Rgba {
-        r: d.r,
-        g: d.g,
-        b: s.b,
-        a: d.a,
-    }
+    Rgba { b: s.b, ..d }
 }
 
 pub fn copy_alpha(s: Rgba, d: Rgba) -> Rgba
     ensures { result ≡ pixel_of O.CopyAlpha unused s d }
 {
-    Rgba {
-        r: d.r,
-        g: d.g,
-        b: d.b,
-        a: s.a,
-    }
+    Rgba { a: s.a, ..d }
 }
 
 pub fn copy_black(s: Rgba, d: Rgba) -> Rgba
@@ -178,14 +164,10 @@ fn within_fuzz(fuzz: f32, s: f32, d: f32) -> bool
 fn matching(fuzz: f32, s: Rgba, d: Rgba) -> bool
     ensures { result ≡ matches fuzz s d }
 {
-    if within_fuzz(fuzz, s.r, d.r) {
-        if within_fuzz(fuzz, s.g, d.g) {
-            if within_fuzz(fuzz, s.b, d.b) {
-                return within_fuzz(fuzz, s.a, d.a);
-            }
-        }
-    }
-    false
+    within_fuzz(fuzz, s.r, d.r)
+        && within_fuzz(fuzz, s.g, d.g)
+        && within_fuzz(fuzz, s.b, d.b)
+        && within_fuzz(fuzz, s.a, d.a)
 }
 
 #[tactic(auto, unfolding(crate::specs::Pixel::change_mask_of))]
@@ -193,14 +175,10 @@ pub fn change_mask(p: Params, s: Rgba, d: Rgba) -> Rgba
     ensures { result ≡ pixel_of O.ChangeMask p s d }
 {
     if matching(p.a, s, d) {
-        return Rgba {
-            r: d.r,
-            g: d.g,
-            b: d.b,
-            a: 0.0,
-        };
+        Rgba { a: 0.0, ..d }
+    } else {
+        d
     }
-    d
 }
 
 #[tactic(auto, unfolding(crate::specs::Channel::threshold_channel))]
@@ -209,20 +187,16 @@ fn threshold_channel(threshold: f32, amount: f32, s: f32, d: f32) -> f32
 {
     let delta = s - d;
     if abs(delta) >= threshold {
-        return d + delta * amount;
+        d + delta * amount
+    } else {
+        d
     }
-    d
 }
 
 pub fn threshold(p: Params, s: Rgba, d: Rgba) -> Rgba
     ensures { result ≡ pixel_of O.Threshold p s d }
 {
-    Rgba {
-        r: threshold_channel(p.a, p.b, s.r, d.r),
-        g: threshold_channel(p.a, p.b, s.g, d.g),
-        b: threshold_channel(p.a, p.b, s.b, d.b),
-        a: d.a,
-    }
+    on_colours(|x, y| threshold_channel(p.a, p.b, x, y), s, d, d.a)
 }
 
 fn scaled(v: f32, i: f32, by: f32) -> f32

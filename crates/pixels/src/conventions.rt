@@ -1,4 +1,5 @@
 // The four conventions of the mathematical operators, for one channel, the arm `op` (composite.rs 824 to 850): b is the blended channel.
+// A channel of the source and one of the destination with the two alphas are four parameters, as in composite.rs: a struct would be taken apart in each line.
 ghost use Rattle.std.specs.Prelude.{◌≡◌};
 ghost use Rattle.pixels.specs.Channel.{over_alpha_of, premult_by, over_union_of, divided_by, on_premult_by, premult_only_by};
 
@@ -16,10 +17,7 @@ pub fn over_alpha(sa: f32, da: f32) -> f32
 pub fn over_union(v: f32, a: f32) -> f32
     ensures { result ≡ over_union_of v a }
 {
-    if a > 0.0 {
-        return v / a;
-    }
-    0.0
+    if a > 0.0 { v / a } else { 0.0 }
 }
 
 pub fn premult(b: f32, s: f32, d: f32, sa: f32, da: f32) -> f32

@@ -5,7 +5,7 @@ ghost use Rattle.operators.specs.declared.CompositeOp.TheVariants as O;
 ghost use Rattle.pixels.specs.Channel.{over_channel, atop_channel, xor_channel, plus_channel};
 ghost use Rattle.pixels.specs.Pixel.{pixel_of, premult_of, with_alpha, straight_or_clear_of, over_by, kept_where_clear, unused};
 
-use crate::Params;
+use crate::{Params, on_colours};
 use float_steps::order::smaller;
 use pictures::Rgba;
 
@@ -24,12 +24,7 @@ fn premult(c: Rgba, w: f32) -> Rgba
 fn with_alpha(c: Rgba, a: f32) -> Rgba
     ensures { result ≡ with_alpha c a }
 {
-    Rgba {
-        r: c.r,
-        g: c.g,
-        b: c.b,
-        a,
-    }
+    Rgba { a, ..c }
 }
 
 // A straight colour with alpha a, cleared to transparent black where a <= 0: not where it is NaN.
@@ -38,14 +33,10 @@ fn straight_or_clear(c: Rgba, a: f32) -> Rgba
     ensures { result ≡ straight_or_clear_of c a }
 {
     if a <= 0.0 {
-        return Rgba {
-            r: 0.0,
-            g: 0.0,
-            b: 0.0,
-            a: 0.0,
-        };
+        Rgba::CLEAR
+    } else {
+        with_alpha(c, a)
     }
-    with_alpha(c, a)
 }
 
 fn over_channel(a: f32, s: f32, d: f32, sa: f32, da: f32) -> f32
@@ -60,13 +51,9 @@ fn over_by(a: f32, s: Rgba, d: Rgba) -> Rgba
     ensures { result ≡ over_by a s d }
 {
     if a <= 0.0 {
-        return with_alpha(d, 0.0);
-    }
-    Rgba {
-        r: over_channel(a, s.r, d.r, s.a, d.a),
-        g: over_channel(a, s.g, d.g, s.a, d.a),
-        b: over_channel(a, s.b, d.b, s.a, d.a),
-        a,
+        with_alpha(d, 0.0)
+    } else {
+        on_colours(|x, y| over_channel(a, x, y, s.a, d.a), s, d, a)
     }
 }
 
@@ -82,10 +69,7 @@ pub fn over(s: Rgba, d: Rgba) -> Rgba
 fn kept_where_clear(o: Rgba, d: Rgba) -> Rgba
     ensures { result ≡ kept_where_clear o d }
 {
-    if o.a <= 0.0 {
-        return with_alpha(d, 0.0);
-    }
-    o
+    if o.a <= 0.0 { with_alpha(d, 0.0) } else { o }
 }
 
 pub fn dst_over(s: Rgba, d: Rgba) -> Rgba
@@ -127,12 +111,7 @@ fn atop_channel(s: f32, d: f32, sa: f32, da: f32) -> f32
 pub fn atop(s: Rgba, d: Rgba) -> Rgba
     ensures { result ≡ pixel_of O.Atop unused s d }
 {
-    Rgba {
-        r: atop_channel(s.r, d.r, s.a, d.a),
-        g: atop_channel(s.g, d.g, s.a, d.a),
-        b: atop_channel(s.b, d.b, s.a, d.a),
-        a: d.a,
-    }
+    on_colours(|x, y| atop_channel(x, y, s.a, d.a), s, d, d.a)
 }
 
 // Atop with the two pictures exchanged.
@@ -151,12 +130,8 @@ fn xor_channel(s: f32, d: f32, sa: f32, da: f32) -> f32
 pub fn xor(s: Rgba, d: Rgba) -> Rgba
     ensures { result ≡ pixel_of O.Xor unused s d }
 {
-    Rgba {
-        r: xor_channel(s.r, d.r, s.a, d.a),
-        g: xor_channel(s.g, d.g, s.a, d.a),
-        b: xor_channel(s.b, d.b, s.a, d.a),
-        a: s.a * (1.0 - d.a) + d.a * (1.0 - s.a),
-    }
+    let a = s.a * (1.0 - d.a) + d.a * (1.0 - s.a);
+    on_colours(|x, y| xor_channel(x, y, s.a, d.a), s, d, a)
 }
 
 fn plus_channel(s: f32, d: f32, sa: f32, da: f32) -> f32
@@ -168,23 +143,15 @@ fn plus_channel(s: f32, d: f32, sa: f32, da: f32) -> f32
 pub fn plus(s: Rgba, d: Rgba) -> Rgba
     ensures { result ≡ pixel_of O.Plus unused s d }
 {
-    Rgba {
-        r: plus_channel(s.r, d.r, s.a, d.a),
-        g: plus_channel(s.g, d.g, s.a, d.a),
-        b: plus_channel(s.b, d.b, s.a, d.a),
-        a: smaller(s.a + d.a, 1.0),
-    }
+    let a = smaller(s.a + d.a, 1.0);
+    on_colours(|x, y| plus_channel(x, y, s.a, d.a), s, d, a)
 }
 
 pub fn blend(p: Params, s: Rgba, d: Rgba) -> Rgba
     ensures { result ≡ pixel_of O.Blend p s d }
 {
-    Rgba {
-        r: s.r * p.a + d.r * p.b,
-        g: s.g * p.a + d.g * p.b,
-        b: s.b * p.a + d.b * p.b,
-        a: smaller(s.a * p.a + d.a * p.b, 1.0),
-    }
+    let a = smaller(s.a * p.a + d.a * p.b, 1.0);
+    on_colours(|x, y| x * p.a + y * p.b, s, d, a)
 }
 
 pub fn dissolve(p: Params, s: Rgba, d: Rgba) -> Rgba

@@ -1,4 +1,5 @@
 -- The source's coordinates: what a test tells of them, and their bounds. Assumes nothing.
+use Rattle.std.specs.Prelude.{Option, Some, None}
 use mathlib.Core.Path.{◌≡◌, refl, sym, ap, ◌∙◌}
 use mathlib.Core.Bool.{Bool, true, false, cond}
 use Prim.Native.Nat.{ℕ, suc, ◌+◌, ◌-◌, ◌*◌, ◌/◌, ◌%◌, ◌<◌, ◌≤◌}
@@ -9,38 +10,25 @@ use lib.IntN.{ℤ, pos, negsuc, ◌+ℤ◌, ◌-ℤ◌, ◌*ℤ◌}
 use lib.Signed.{shr_z}
 use borrow.Author.Tests.{ltb-true, lt-ltb, le-ltb}
 use Rattle.places.specs.declared.Corner.{Corner}
-use Rattle.places.specs.declared.Index.{Index}
-use Rattle.places.specs.declared.Index.TheVariants.{At, Off}
 use Rattle.places.specs.Bounds.{Under}
 use Rattle.places.specs.Indices.{rem_euclid, inside_of, axis_index, tiles, pixel_index, source_index}
 
 -- ---- what the code's tests tell
 
-module _ (side k : ℕ) {z : ℤ} (here : z ≡ pos k) where
-  pub at_inside : k < side → At k ≡ inside_of side z
-  at_inside h = rw (here, lt-ltb k side h)
-
-  pub off_past : side ≤ k → Off ≡ inside_of side z
-  off_past h = rw (here, le-ltb k side h)
-
-pub axis_empty : (tile : Bool) (z : ℤ) → Off ≡ axis_index tile 0 z
+pub axis_empty : (tile : Bool) (z : ℤ) → None ≡ axis_index tile 0 z
 unfolding axis_index
 axis_empty true (pos n) = rw (le-ltb n 0 (omega arith))
 axis_empty true (negsuc n) = refl
 axis_empty false (pos n) = rw (le-ltb n 0 (omega arith))
 axis_empty false (negsuc n) = refl
 
-pub axis_tiled : (side : ℕ) (z : ℤ) → (side ≡ 0 → ⊥) → At (rem_euclid z side) ≡ axis_index true side z
+pub axis_tiled : (side : ℕ) (z : ℤ) → (side ≡ 0 → ⊥) → Some (rem_euclid z side) ≡ axis_index true side z
 unfolding axis_index
 axis_tiled side z h = rw (lt-ltb 0 side (omega arith))
 
 pub axis_untiled : (side : ℕ) (z : ℤ) → inside_of side z ≡ axis_index false side z
 unfolding axis_index
 axis_untiled side z = refl
-
-pub no_column : (tile : Bool) (sh : ℕ) → false ≡ tiles tile 0 sh
-no_column true sh = refl
-no_column false sh = refl
 
 -- ---- the remainder is Euclid's: with the quotient rounded down it makes up the number
 
@@ -54,7 +42,7 @@ euclid (negsuc n) m h =
 
 -- ---- bounds
 
-picked : (t : Bool) (n m : ℕ) → cond t (At n) Off ≡ At m → (t ≡ true) × (n ≡ m)
+picked : (t : Bool) (n m : ℕ) → cond t (Some n) None ≡ Some m → (t ≡ true) × (n ≡ m)
 picked true n m e = (refl, cc)
 picked false n m e = let x : ◌≡◌ {A = ℕ} 0 1 = cc in absurd (omega arith)
 
@@ -62,36 +50,32 @@ rem_below : (z : ℤ) (m : ℕ) → 0 < m → rem_euclid z m < m
 rem_below (pos n) m h = mod-lt n {m = m} h
 rem_below (negsuc n) m h = omega (arith, mod-lt n {m = m} h)
 
-inside_below : (side : ℕ) (z : ℤ) (n : ℕ) → inside_of side z ≡ At n → n < side
+inside_below : (side : ℕ) (z : ℤ) (n : ℕ) → inside_of side z ≡ Some n → n < side
 inside_below side (pos k) n e =
     let p = picked (ltb k side) k n e in
     let b : k < side = ltb-true k side p.0 in
     omega (arith, p.1)
 inside_below side (negsuc k) n e = let x : ◌≡◌ {A = ℕ} 0 1 = cc in absurd (omega arith)
 
-axis_by : (t : Bool) (side : ℕ) (z : ℤ) (n : ℕ) → ltb 0 side ≡ t → cond t (At (rem_euclid z side)) (inside_of side z) ≡ At n → n < side
+axis_by : (t : Bool) (side : ℕ) (z : ℤ) (n : ℕ) → ltb 0 side ≡ t → cond t (Some (rem_euclid z side)) (inside_of side z) ≡ Some n → n < side
 axis_by true side z n h e =
     let m : rem_euclid z side ≡ n = cc in
     omega (arith, m, rem_below z side (ltb-true 0 side h))
 axis_by false side z n h e = inside_below side z n e
 
 -- a coordinate of the source is below its side
-pub axis_below : (tile : Bool) (side : ℕ) (z : ℤ) (n : ℕ) → axis_index tile side z ≡ At n → n < side
+pub axis_below : (tile : Bool) (side : ℕ) (z : ℤ) (n : ℕ) → axis_index tile side z ≡ Some n → n < side
 unfolding axis_index
 axis_below true side z n e = axis_by (ltb 0 side) side z n refl e
 axis_below false side z n e = inside_below side z n e
 
-under : (n m : ℕ) (s : Index) → m ≤ n → ((i : ℕ) → s ≡ At i → i < m) → Under n s
-under n m (At i) h b = omega (arith, b i refl)
-under n m Off h b = tt
+under : (n m : ℕ) (s : Option ℕ) → m ≤ n → ((i : ℕ) → s ≡ Some i → i < m) → Under n s
+under n m (Some i) h b = omega (arith, b i refl)
+under n m None h b = tt
 
 -- the same, where a call's answer is that coordinate
-pub axis_under : (n : ℕ) {s : Index} (tile : Bool) (side : ℕ) (z : ℤ) → s ≡ axis_index tile side z → side ≤ n → Under n s
+pub axis_under : (n : ℕ) {s : Option ℕ} (tile : Bool) (side : ℕ) (z : ℤ) → s ≡ axis_index tile side z → side ≤ n → Under n s
 axis_under n {s} tile side z e h = under n side s h (λ i k. axis_below tile side z i (sym e ∙ k))
-
--- what was asked with equal arguments
-pub axis_as : {s : Index} {t u : Bool} (side x : ℕ) {y z : ℤ} → s ≡ axis_index t side (pos x -ℤ y) → t ≡ u → y ≡ z → s ≡ axis_index u side (pos x -ℤ z)
-axis_as side x e p q = rw (← p, ← q) e
 
 -- an index lies on the row and the column that it is made of
 pub record OnSource (tile : Bool) (sw sh : ℕ) (corner : Corner) (x y n : ℕ) : Type 0 where
@@ -102,23 +86,23 @@ pub record OnSource (tile : Bool) (sw sh : ℕ) (corner : Corner) (x y n : ℕ) 
   pub index : row * sw + column ≡ n
 
 module _ (tile : Bool) (sw sh : ℕ) (corner : Corner) (x y n : ℕ) where
-  by_indices : (a b : Index) → axis_index (tiles tile sw sh) sw (pos x -ℤ corner.x) ≡ a → axis_index (tiles tile sw sh) sh (pos y -ℤ corner.y) ≡ b → pixel_index sw a b ≡ At n → OnSource tile sw sh corner x y n
-  by_indices (At i) (At j) p q e = record {
+  by_indices : (a b : Option ℕ) → axis_index (tiles tile sw sh) sw (pos x -ℤ corner.x) ≡ a → axis_index (tiles tile sw sh) sh (pos y -ℤ corner.y) ≡ b → pixel_index sw a b ≡ Some n → OnSource tile sw sh corner x y n
+  by_indices (Some i) (Some j) p q e = record {
     column = i;
     row = j;
     column_below = axis_below (tiles tile sw sh) sw (pos x -ℤ corner.x) i p;
     row_below = axis_below (tiles tile sw sh) sh (pos y -ℤ corner.y) j q;
     index = cc;
   }
-  by_indices (At i) Off p q e = let z : ◌≡◌ {A = ℕ} 0 1 = cc in absurd (omega arith)
-  by_indices Off b p q e = let z : ◌≡◌ {A = ℕ} 0 1 = cc in absurd (omega arith)
+  by_indices (Some i) None p q e = let z : ◌≡◌ {A = ℕ} 0 1 = cc in absurd (omega arith)
+  by_indices None b p q e = let z : ◌≡◌ {A = ℕ} 0 1 = cc in absurd (omega arith)
 
-  pub on_source : source_index tile sw sh corner x y ≡ At n → OnSource tile sw sh corner x y n
+  pub on_source : source_index tile sw sh corner x y ≡ Some n → OnSource tile sw sh corner x y n
   unfolding source_index
   on_source e = by_indices _ _ refl refl e
 
   -- an index is below the number of the source's pixels
-  pub index_below : source_index tile sw sh corner x y ≡ At n → n < sw * sh
+  pub index_below : source_index tile sw sh corner x y ≡ Some n → n < sw * sh
   index_below e =
       let o = on_source e in
       let up : suc o.row * sw ≤ sh * sw = mul-le-mul o.row_below (le_refl sw) in

@@ -18,10 +18,6 @@ sfits h = record { sfits = h }
 pub back : {z : ℤ} → mag z < 9223372036854775808 → to_z w64 (of_z w64 z) ≡ z
 back h = to_z-of_z (sfits h)
 
--- a signed value that is y, read back from its bits
-pub back_as : {z y : ℤ} → z ≡ y → mag y < 9223372036854775808 → to_z w64 (of_z w64 z) ≡ y
-back_as {y = y} e h = ap (λ (x : ℤ). to_z w64 (of_z w64 x)) e ∙ back h
-
 picked : (t : Bool) (a b : ℕ) → mag (cond t (negsuc (b - suc a)) (pos (a - b))) ≤ a + b
 picked true a b = omega arith
 picked false a b = omega arith

@@ -1,10 +1,8 @@
 -- The bounds under which placing is asked for. They are slack: a job's sides and offsets are far below them, and its limits
 -- can be raised without touching what is proved here. The definitions of Placement and Indices hold without any bound.
-use Rattle.std.specs.Prelude.{ℕ, ◌<◌, ◌≤◌, ℤ}
+use Rattle.std.specs.Prelude.{ℕ, ◌<◌, ◌≤◌, ℤ, Option, Some, None}
 use Rattle.std.specs.Int.Signed.{mag}
 use Rattle.places.specs.declared.Corner.{Corner}
-use Rattle.places.specs.declared.Index.{Index}
-use Rattle.places.specs.declared.Index.TheVariants.{At, Off}
 
 -- a bound of sides and offsets, 2^24
 abbrev pub slack : ℕ
@@ -15,9 +13,9 @@ abbrev pub reach : ℕ
 reach = 67108864
 
 -- a coordinate is below a bound; none is
-abbrev pub Under : ℕ → Index → Type 0
-Under n (At i) = i < n
-Under n Off = Unit
+abbrev pub Under : ℕ → Option ℕ → Type 0
+Under n (Some i) = i < n
+Under n None = Unit
 
 -- the destination's and the source's sides and a layer's offsets
 pub record Measured (dw dh sw sh : ℕ) (right down : ℤ) : Type 0 where

@@ -10,7 +10,7 @@ ghost use Rattle.places.specs.Placement.{start_of, placement_of};
 ghost use Rattle.places.specs.Indices.{rem_euclid, inside_of, axis_index, tiles, pixel_index, source_index};
 
 // The nine points of gravity_translate.rs; `Unset` is composite.rs's `None`. The order is that of their numbers.
-#[derive(Clone, Copy)]
+#[derive(Clone, Copy, Debug, PartialEq, Eq)]
 pub enum Gravity {
     Unset,
     NorthWest,
@@ -25,7 +25,7 @@ pub enum Gravity {
 }
 
 // Along one axis a source lies at the destination's near edge, in its middle, or at its far edge.
-#[derive(Clone, Copy)]
+#[derive(Clone, Copy, Debug, PartialEq, Eq)]
 pub enum Anchor {
     Near,
     Middle,
@@ -33,17 +33,10 @@ pub enum Anchor {
 }
 
 // The destination coordinates of a source's top left pixel.
-#[derive(Clone, Copy)]
+#[derive(Clone, Copy, Debug, PartialEq, Eq)]
 pub struct Corner {
     pub x: i64,
     pub y: i64,
-}
-
-// A coordinate, or a pixel's index, of the source; `Off` where the source has none.
-#[derive(Clone, Copy)]
-pub enum Index {
-    At(usize),
-    Off,
 }
 
 impl Gravity {
@@ -70,44 +63,33 @@ impl Gravity {
         ensures { result ≡ gravity_at n }
     {
         if n <= Self::LAST {
-            return Self::ALL[n as usize];
+            Self::ALL[n as usize]
+        } else {
+            Gravity::Unset
         }
-        Gravity::Unset
     }
 
-    // Where a source lies from left to right.
+    // Where a source lies from left to right: one of the definition's two tables.
     fn across(self) -> Anchor
         ensures { result ≡ across_of self }
     {
         match self {
-            Gravity::Unset => Anchor::Near,
-            Gravity::NorthWest => Anchor::Near,
-            Gravity::North => Anchor::Middle,
-            Gravity::NorthEast => Anchor::Far,
-            Gravity::West => Anchor::Near,
-            Gravity::Centre => Anchor::Middle,
-            Gravity::East => Anchor::Far,
-            Gravity::SouthWest => Anchor::Near,
-            Gravity::South => Anchor::Middle,
-            Gravity::SouthEast => Anchor::Far,
+            Gravity::Unset | Gravity::NorthWest | Gravity::West | Gravity::SouthWest =>
+                Anchor::Near,
+            Gravity::North | Gravity::Centre | Gravity::South => Anchor::Middle,
+            Gravity::NorthEast | Gravity::East | Gravity::SouthEast => Anchor::Far,
         }
     }
 
-    // Where a source lies from top to bottom.
+    // Where a source lies from top to bottom: the other table.
     fn downward(self) -> Anchor
         ensures { result ≡ downward_of self }
     {
         match self {
-            Gravity::Unset => Anchor::Near,
-            Gravity::NorthWest => Anchor::Near,
-            Gravity::North => Anchor::Near,
-            Gravity::NorthEast => Anchor::Near,
-            Gravity::West => Anchor::Middle,
-            Gravity::Centre => Anchor::Middle,
-            Gravity::East => Anchor::Middle,
-            Gravity::SouthWest => Anchor::Far,
-            Gravity::South => Anchor::Far,
-            Gravity::SouthEast => Anchor::Far,
+            Gravity::Unset | Gravity::NorthWest | Gravity::North | Gravity::NorthEast =>
+                Anchor::Near,
+            Gravity::West | Gravity::Centre | Gravity::East => Anchor::Middle,
+            Gravity::SouthWest | Gravity::South | Gravity::SouthEast => Anchor::Far,
         }
     }
 }
@@ -120,32 +102,10 @@ impl Anchor {
     {
         match self {
             Anchor::Near => offset,
-            Anchor::Middle => sum(half(gap(dst, src)), offset),
-            Anchor::Far => sum(gap(dst, src), offset),
+            Anchor::Middle => (dst as i64 - src as i64) / 2 + offset, // half of the gap, cut towards zero
+            Anchor::Far => dst as i64 - src as i64 + offset,
         }
     }
-}
-
-// The difference of two sides.
-fn gap(dst: usize, src: usize) -> i64
-    requires { (dst ≤ slack) × (src ≤ slack) }
-    ensures { result ≡ pos dst -ℤ pos src }
-{
-    dst as i64 - src as i64
-}
-
-// Half of a number, cut towards zero.
-fn half(z: i64) -> i64
-    ensures { result ≡ quot_z z (pos 2) }
-{
-    z / 2
-}
-
-fn sum(a: i64, b: i64) -> i64
-    requires { (mag a ≤ reach) × (mag b ≤ reach) }
-    ensures { result ≡ a +ℤ b }
-{
-    a + b
 }
 
 // composite.rs's `placement`: the source's top left corner on the destination.
@@ -164,18 +124,10 @@ pub fn placement(
 {
     let x = gravity.across().start(dw, sw, right);
     let y = gravity.downward().start(dh, sh, down);
-    Corner { x: x, y: y }
+    Corner { x, y }
 }
 
-// A destination coordinate, counted from where the source starts.
-fn from_start(x: usize, start: i64) -> i64
-    requires { (x ≤ slack) × (mag start ≤ reach) }
-    ensures { result ≡ pos x -ℤ start }
-{
-    x as i64 - start
-}
-
-// Rust's `rem_euclid` on integers.
+// Rust's `rem_euclid` on integers. By hand, since std's takes both as i64, and no clause bounds the side by that.
 fn rem_euclid(z: i64, m: usize) -> usize
     requires { 0 < m }
     ensures { result ≡ rem_euclid z m }
@@ -188,31 +140,28 @@ fn rem_euclid(z: i64, m: usize) -> usize
 }
 
 // A number that is itself a coordinate of a side.
-fn inside(z: i64, side: usize) -> Index
+fn inside(z: i64, side: usize) -> Option<usize>
     ensures { result ≡ inside_of side z }
 {
     if z < 0 {
-        return Index::Off;
+        return None;
     }
     let n = z as usize;
-    if n < side {
-        return Index::At(n);
-    }
-    Index::Off
+    if n < side { Some(n) } else { None }
 }
 
-// The source's coordinate along one axis, at a destination coordinate.
+// The source's coordinate along one axis, at a destination coordinate; `None` where the source has none.
 #[tactic(auto, using(crate::proofs::Indices::axis_empty, crate::proofs::Indices::axis_tiled, crate::proofs::Indices::axis_untiled))]
-pub fn axis_index(tile: bool, side: usize, x: usize, start: i64) -> Index
+pub fn axis_index(tile: bool, side: usize, x: usize, start: i64) -> Option<usize>
     requires { (x ≤ slack) × (mag start ≤ reach) }
     ensures { result ≡ axis_index tile side (pos x -ℤ start) }
 {
-    let z = from_start(x, start);
+    let z = x as i64 - start;
     if side == 0 {
-        return Index::Off;
+        return None;
     }
     if tile {
-        return Index::At(rem_euclid(z, side));
+        return Some(rem_euclid(z, side));
     }
     inside(z, side)
 }
@@ -221,32 +170,27 @@ pub fn axis_index(tile: bool, side: usize, x: usize, start: i64) -> Index
 pub fn repeats(tile: bool, sw: usize, sh: usize) -> bool
     ensures { result ≡ tiles tile sw sh }
 {
-    if sw == 0 {
-        return false;
-    }
-    if tile {
-        return 0 < sh;
-    }
-    false
+    tile && 0 < sw && 0 < sh
 }
 
 // The index, row by row, of the pixel at a column and a row of a source that is sw wide.
-fn pixel_index(sw: usize, column: Index, row: Index) -> Index
+fn pixel_index(sw: usize, column: Option<usize>, row: Option<usize>) -> Option<usize>
     requires { (sw ≤ slack) × Under slack column × Under slack row }
     ensures { result ≡ pixel_index sw column row }
 {
-    match column {
-        Index::Off => Index::Off,
-        Index::At(sx) => match row {
-            Index::Off => Index::Off,
-            Index::At(sy) => Index::At(sy * sw + sx),
-        },
-    }
+    Some(row? * sw + column?)
 }
 
-// The index of the source's pixel that lies on the destination pixel (x, y).
+// The index of the source's pixel that lies on the destination pixel (x, y), if one does.
 #[tactic(auto, unfolding(crate::specs::Indices::source_index))]
-pub fn source_index(tile: bool, sw: usize, sh: usize, corner: Corner, x: usize, y: usize) -> Index
+pub fn source_index(
+    tile: bool,
+    sw: usize,
+    sh: usize,
+    corner: Corner,
+    x: usize,
+    y: usize,
+) -> Option<usize>
     requires { Reached sw sh corner x y }
     ensures { result ≡ source_index tile sw sh corner x y }
 {

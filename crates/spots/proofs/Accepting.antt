@@ -1,28 +1,20 @@
--- A call without a fault: its spot lies on the destination, its pixel can be asked for, and what is asked is answered. Assumes nothing.
-use Rattle.std.proofs.Common.{◌≡◌, ℕ, ◌*◌, ◌^◌, ◌<◌, Bool, true, false, cond, not, ltb, eqb, ℤ, pos, negsuc, refl, arith, true≢false}
-use borrow.Author.Tests.{eq-eqb, eqb-true, eqb-false, ltb-true, ltb-false, not-false}
+-- A call without a fault: its spot lies on the destination, and its pixel can be asked for. Assumes nothing.
+use Rattle.std.proofs.Common.{◌≡◌, ◌*◌, ◌^◌, ◌<◌, Bool, true, false, cond, not, ltb, eqb, ℤ, pos, negsuc, refl, arith, true≢false}
+use borrow.Author.Tests.{eqb-true, eqb-false, ltb-true, ltb-false, not-false}
 use lib.Signed.{lt_z}
-use Rattle.faults.specs.Faults.{NONE, SPOT}
-use Rattle.layers.specs.declared.Verdict.{Verdict}
+use Rattle.faults.specs.Faults.{SPOT}
 use Rattle.layers.specs.Faults.{fault_if}
-use Rattle.layers.specs.Inputs.{Inputs, verdict, job_fault}
+use Rattle.layers.specs.Inputs.{Inputs, Verdict, verdict, job_fault}
 use Rattle.layers.proofs.Accepted.{accepted}
 use Rattle.pictures.specs.Shapes.{nat_of}
-use Rattle.pictures.specs.declared.Words.{Words}
 use Rattle.pictures.proofs.Ranges.{both_fail, all_fail}
-use Rattle.spots.specs.declared.Sizes.{Sizes}
-use Rattle.spots.specs.Spots.{colour_of, reads_of, maps_of}
-use Rattle.spots.specs.Steps.{inputs_by, Asked, AskedAt}
-use Rattle.spots.specs.Answers.{most_maps, layer_count, off, bad_spot, spot_fault, pixel_at, answer, acceptance}
+use Rattle.spots.specs.Spots.{maps_of}
+use Rattle.spots.specs.Steps.{Asked, AskedAt}
+use Rattle.spots.specs.Answers.{most_maps, layer_count, off, bad_spot, spot_fault, pixel_at}
 use Rattle.spots.proofs.Asked.{number_fits}
 use Rattle.spots.proofs.Counted.{few_reads}
 
 -- ---- the faults
-
--- inputs without a fault leave it to the spot
-pub spot_found : (i : Inputs) (x y : ℤ) (bad : Bool) → (job_fault i).number ≡ 0 → bad_spot i x y ≡ bad → verdict (cond bad SPOT NONE) 0 ≡ spot_fault i x y
-unfolding spot_fault
-spot_found i x y bad e b = rw (eq-eqb (job_fault i).number 0 e, b)
 
 neither : (v : Verdict) (bad t : Bool) → eqb v.number 0 ≡ t → (cond t (verdict (fault_if bad SPOT) 0) v).number ≡ 0 → (v.number ≡ 0) × (bad ≡ false)
 neither v true true e h = absurd (omega arith)
@@ -41,7 +33,7 @@ module _ (i : Inputs) (x y : ℤ) (none : (spot_fault i x y).number ≡ 0) where
   unfolding spot_fault
   parts = neither (job_fault i) (bad_spot i x y) _ refl none
 
-  pub fit : (job_fault i).number ≡ 0
+  fit : (job_fault i).number ≡ 0
   fit = parts.0
 
   spot : (off i.shape.width x ≡ false) × (off i.shape.height y ≡ false) × (ltb most_maps (maps_of i.table i.args (layer_count i)) ≡ false)
@@ -58,21 +50,8 @@ module _ (i : Inputs) (x y : ℤ) (none : (spot_fault i x y).number ≡ 0) where
   pub spot_fits : (pixel_at i x y < nat_of i.shape.width * nat_of i.shape.height) × (pixel_at i x y < 2 ^ 64)
   spot_fits = number_fits i fit (nat_of x) (nat_of y) column row
 
-  asked : AskedAt i (layer_count i) (pixel_at i x y) 0
+  pub asked : AskedAt i (layer_count i) (pixel_at i x y) 0
   asked =
       let few = few_reads i (layer_count i) (pixel_at i x y) (ltb-false _ _ spot.2) in
       let here : Asked i (layer_count i) = record { fit = fit; picture = omega arith } in
       record { asked = here; inside = spot_fits.0; room = omega arith }
-
-  -- ---- by the natural numbers of its inputs
-
-  module _ (z : Sizes) (w : z.width ≡ nat_of i.shape.width) (h : z.height ≡ nat_of i.shape.height) (d : z.channels ≡ nat_of i.shape.channels) (n : z.layers ≡ nat_of i.count) where
-    same : inputs_by z i.dst i.table i.args i.samples ≡ i
-    same = let a = accepted i fit in rw (w, h, d, n, ← a.shape.wide.natural, ← a.shape.high.natural, ← a.shape.deep.natural, ← a.count.natural)
-
-    pub asked_by : {j : ℕ} → j ≡ pixel_at i x y → AskedAt (inputs_by z i.dst i.table i.args i.samples) z.layers j 0
-    asked_by e = rw (same, n, e) asked
-
-    pub answered_by : {j : ℕ} {colour : Words} {reads : ℕ} → j ≡ pixel_at i x y → colour ≡ colour_of (inputs_by z i.dst i.table i.args i.samples) z.layers j
-        → reads ≡ reads_of (inputs_by z i.dst i.table i.args i.samples) z.layers j → answer NONE 0 colour reads ≡ acceptance i x y
-    answered_by e c r = rw (c, r, same, n, e)

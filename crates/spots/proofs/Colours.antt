@@ -99,9 +99,8 @@ module _ (i : Inputs) (k n j : ℕ) (up : k ≡ suc n) where
   needed_above = rw up
 
   -- what the layer's plan makes of the pixel's own words
-  pub painted_colour : {p : Plan} (m : Layer) {source : List ℕ} (own : Words) → Planned m dw dh p → m ≡ l → source ≡ source_of i.samples m.source
-      → painted_by p source own j ≡ composed_at i.samples l dw dh (λ _. own) j
-  painted_colour m own h e s = rw s (h.composes i.samples (λ _. own) j) ∙ ap (λ (x : Layer). composed_at i.samples x dw dh (λ _. own) j) e
+  pub painted_colour : {p : Plan} {source : List ℕ} (own : Words) → Planned l dw dh p → source ≡ source_of i.samples l.source → painted_by p source own j ≡ composed_at i.samples l dw dh (λ _. own) j
+  painted_colour own h s = rw s (h.composes i.samples (λ _. own) j)
 
   -- the pixel is kept
   pub kept_colour : {own : Words} → own ≡ colour_of i n j → writes l dw dh j ≡ false → own ≡ colour_of i k j

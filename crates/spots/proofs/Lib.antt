@@ -1,3 +1,4 @@
+pub mod Above
 pub mod Accepting
 pub mod Asked
 pub mod Colours

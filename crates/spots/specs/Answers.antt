@@ -1,15 +1,16 @@
 -- A spot's faults and what a call answers (document 02, A.6): "The job is checked as before, without work pictures or mark; a spot off the tray, or more than
 -- four map layers, is 15 after those checks. A refusal gives four zeros and 0 reads." Definitions only.
-use Rattle.std.specs.Prelude.{Bool, cond, not, ◌||◌, ℕ, ◌+◌, ◌*◌, eqb, ltb, ℤ, pos}
+use Rattle.std.specs.Prelude.{Bool, cond, not, ◌||◌, ℕ, ◌+◌, ◌*◌, eqb, ltb, ℤ, pos, Result, Ok, Err}
 use Rattle.std.specs.Int.Signed.{lt_z}
 use Rattle.faults.specs.Faults.{NONE, SPOT}
-use Rattle.layers.specs.declared.Verdict.{Verdict}
+use Rattle.faults.specs.Numbers.{number_of}
+use Rattle.layers.specs.declared.Refusal.{Refusal}
 use Rattle.layers.specs.Faults.{fault_if}
-use Rattle.layers.specs.Inputs.{Inputs, verdict, job_fault}
+use Rattle.layers.specs.Inputs.{Inputs, Verdict, verdict, job_fault}
 use Rattle.pictures.specs.Shapes.{nat_of}
 use Rattle.pictures.specs.Widen.{words_of}
 use Rattle.pictures.specs.declared.Words.{Words}
-use Rattle.spots.specs.declared.Answer.{Answer}
+use Rattle.spots.specs.declared.Spot.{Spot}
 use Rattle.spots.specs.Spots.{colour_of, reads_of, maps_of}
 
 -- the most map layers of a job whose spots are worked out
@@ -37,6 +38,13 @@ pixel_at i x y = nat_of y * nat_of i.shape.width + nat_of x
 
 -- ---- the answers
 
+-- the number of a call's first fault and that fault's layer, or 0 and 0; the spot's colour, and its reads
+pub record Answer : Type 0 where
+  pub number : ℕ
+  pub layer : ℕ
+  pub colour : Words
+  pub reads : ℕ
+
 abbrev pub answer : (number layer : ℕ) → (colour : Words) → (reads : ℕ) → Answer
 answer number layer colour reads = record { number = number; layer = layer; colour = colour; reads = reads }
 
@@ -50,3 +58,8 @@ acceptance i x y = let j = pixel_at i x y in answer NONE 0 (colour_of i (layer_c
 -- what a call answers
 unfoldable pub spot_of : Inputs → (x y : ℤ) → Answer
 spot_of i x y = cond (eqb (spot_fault i x y).number NONE) (acceptance i x y) (refusal (spot_fault i x y))
+
+-- the same of what the code answers
+abbrev pub answer_of : Result Spot Refusal → Answer
+answer_of (Ok s) = answer NONE 0 s.colour s.reads
+answer_of (Err r) = refusal (verdict (number_of r.fault) r.layer)

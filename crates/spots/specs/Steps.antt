@@ -1,24 +1,22 @@
--- What the functions beneath the call ask and answer: a layer by its plan, and the recursion by natural numbers. Definitions only.
-use Rattle.std.specs.Prelude.{◌≡◌, Bool, cond, ◌&&◌, ◌||◌, List, ℕ, ◌+◌, ◌*◌, ◌^◌, ◌<◌, ◌≤◌, ℤ, pos}
-use Rattle.std.specs.Borrow.{Bor}
-use Rattle.lent.specs.Lent.{Shown}
+-- What the functions beneath the call ask and answer: a layer by its plan, and the recursion. Definitions only.
+use Rattle.std.specs.Prelude.{◌≡◌, Bool, cond, ◌&&◌, ◌||◌, List, ℕ, ◌+◌, ◌*◌, ◌^◌, ◌<◌, ◌≤◌, length}
 use Rattle.faults.specs.Faults.{NONE}
 use Rattle.operators.specs.Operators.{same_op}
 use Rattle.operators.specs.declared.CompositeOp.{CompositeOp}
 use Rattle.operators.specs.declared.CompositeOp.TheVariants as O
-use Rattle.layers.specs.Inputs.{Inputs, inputs_of, job_fault}
+use Rattle.layers.specs.Inputs.{Inputs, job_fault}
 use Rattle.float_steps.specs.declared.axis.Axis.{Axis}
 use Rattle.places.specs.Bounds.{slack}
-use Rattle.pictures.specs.Shapes.{nat_of, shape_of}
+use Rattle.pictures.specs.Shapes.{nat_of}
 use Rattle.pictures.specs.declared.Rgba.{Rgba}
 use Rattle.pictures.specs.declared.Words.{Words}
-use Rattle.compose.specs.Compose.{source_pixel}
+use Rattle.compose.specs.Compose.{source_of, source_pixel}
 use Rattle.compose.specs.Plans.{index_by, writes_by, map_column_by, map_row_by, pixel_on}
+use Rattle.compose.specs.Ready.{Planned, Ready}
 use Rattle.compose.specs.declared.Plan.{Plan}
 use Rattle.spots.specs.declared.Needs.{Needs}
 use Rattle.spots.specs.declared.Needs.TheVariants.{Kept, Nothing, Own, Around}
-use Rattle.spots.specs.declared.Sizes.{Sizes}
-use Rattle.spots.specs.Spots.{all_on, around, reads_of, sum_of}
+use Rattle.spots.specs.Spots.{layer_in, all_on, around, reads_of, sum_of}
 
 -- ---- a layer by its plan
 
@@ -49,18 +47,13 @@ pub record On (p : Plan) (j : ℕ) : Type 0 where
 abbrev pub painted_by : Plan → (source : List ℕ) → (own : Words) → (j : ℕ) → Words
 painted_by p source own j = pixel_on p source (λ i. own) j
 
+-- layer n's plan on the destination, and its source
+pub record Laid (i : Inputs) (n : ℕ) (p : Plan) (source : List ℕ) : Type 0 where
+  pub planned : Planned (layer_in i n) (nat_of i.shape.width) (nat_of i.shape.height) p
+  pub own : source ≡ source_of i.samples (layer_in i n).source
+  pub ready : Ready p (length source)
+
 -- ---- the recursion
-
--- the inputs, by a job's natural numbers
-abbrev pub inputs_by : Sizes → (dst : List ℕ) → (table : List ℤ) → (args samples : List ℕ) → Inputs
-inputs_by z dst table args samples = inputs_of (shape_of (pos z.width) (pos z.height) (pos z.channels)) dst (pos z.layers) table args samples
-
--- the same by a function's parameters, in a `requires` and in an `ensures`
-abbrev pub held_inputs : Sizes → (dst : Bor (List ℕ)) → (table : Bor (List ℤ)) → (args samples : Bor (List ℕ)) → Inputs
-held_inputs z dst table args samples = inputs_by z dst.now table.now args.now samples.now
-
-abbrev pub lent_inputs : Sizes → (dst : Shown (List ℕ)) → (table : Shown (List ℤ)) → (args samples : Shown (List ℕ)) → Inputs
-lent_inputs z dst table args samples = inputs_by z dst.entry.now table.entry.now args.entry.now samples.entry.now
 
 -- a pixel of picture k of a job without a fault can be asked for
 pub record Asked (i : Inputs) (k : ℕ) : Type 0 where
@@ -72,6 +65,13 @@ pub record AskedAt (i : Inputs) (k j reads : ℕ) : Type 0 where
   pub asked : Asked i k
   pub inside : j < nat_of i.shape.width * nat_of i.shape.height
   pub room : reads + reads_of i k j < 2 ^ 64
+
+-- the pixel of it in a column and a row
+pub record AskedPlace (i : Inputs) (k column row reads : ℕ) : Type 0 where
+  pub asked : Asked i k
+  pub across : column < nat_of i.shape.width
+  pub down : row < nat_of i.shape.height
+  pub room : reads + reads_of i k (row * nat_of i.shape.width + column) < 2 ^ 64
 
 -- the four neighbours of a column and a row
 pub record AskedAround (i : Inputs) (k : ℕ) (x y : Axis) (reads : ℕ) : Type 0 where

@@ -1,6 +1,5 @@
 // A layer's pixel, from what it needs of the picture beneath.
 ghost use Rattle.std.specs.Prelude.{◌≡◌, false, length};
-ghost use Rattle.lent.specs.Lent.{before};
 ghost use Rattle.pictures.specs.Widen.{values_of};
 ghost use Rattle.pictures.specs.Bilinear.{channels_of, mix_of};
 ghost use Rattle.compose.specs.Compose.{written_of};
@@ -42,6 +41,5 @@ pub fn four(w: Words) -> [f32; 4]
 pub fn mixed(p: Plan, x: Axis, y: Axis, neighbours: [[f32; 4]; 4], own: Words) -> Words
     ensures { result ≡ written_of p.mask (mix_of neighbours x.along y.along) own }
 {
-    let mask = p.mask;
-    written(mask, mix(neighbours, x.along, y.along), own)
+    written(p.mask, mix(neighbours, x.along, y.along), own)
 }

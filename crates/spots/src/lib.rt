@@ -2,7 +2,7 @@
 // needs, and one that takes all from its source asks for nothing. The contracts cite specs/Spots and Answers, and beneath the call Steps.
 #![tactic(auto)]
 
-pub mod spot; // spot.rt: the call
+pub mod call; // call.rt: the call
 mod checks; // checks.rt: the faults of a call
 mod colour; // colour.rt: the recursion on the layers, and the one function that reads the destination
 mod beneath; // beneath.rt: what a layer needs of the picture beneath
@@ -20,29 +20,9 @@ enum Needs {
     Around(Axis, Axis, bool), // the four neighbours of a column and a row, and its own pixel too unless all channels are on
 }
 
-// The numbers of a job without a fault, as natural ones.
+// A spot's colour, and how often a pixel of the destination was read for it.
 #[derive(Clone, Copy)]
-struct Sizes {
-    pub width: usize,
-    pub height: usize,
-    pub channels: usize,
-    pub layers: usize,
-}
-
-// Four zeros: a refused call's colour, and a pixel that is not looked at.
-const ZEROS: Words = Words {
-    r: 0,
-    g: 0,
-    b: 0,
-    a: 0,
-};
-
-// What a call answers: the number of its first fault and that fault's layer, or 0 and 0; the spot's colour, and how often a pixel of the destination was
-// read for it.
-#[derive(Clone, Copy)]
-pub struct Answer {
-    pub number: u64,
-    pub layer: u64,
+pub struct Spot {
     pub colour: Words,
     pub reads: u64,
 }

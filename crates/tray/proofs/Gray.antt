@@ -1,12 +1,12 @@
 -- Document 02, A.1, was asked for so that a gray print and the intensity curve agree. They do: the gray of a pixel is the operators' intensity of it, as a
 -- value and as it is stored. NaN and infinities are no exception. No function's proof cites this. Assumes nothing.
+use Rattle.std.specs.Prelude.{Some}
 use mathlib.Core.Path.{◌≡◌, refl}
 use mathlib.Core.Bool.{true}
 use mathlib.Core.List.{List, [], ◌∷◌}
 use mathlib.Core.Logic.{◌⊎◌, inl, inr}
 use Prim.Native.Nat.{ℕ, ◌/◌, ◌%◌}
 use Rattle.operators.specs.declared.CompositeOp.TheVariants as O
-use Rattle.places.specs.declared.Index.TheVariants.{At}
 use Rattle.layers.specs.declared.Layer.{Layer}
 use Rattle.layers.specs.Windows.{holds}
 use Rattle.pictures.specs.Widen.{rgba_at}
@@ -25,7 +25,7 @@ gray_is_intensity p = refl
 -- where the source's pixel n lies on pixel j and the window holds that, what a layer of Intensity or CopyBlack writes into a colour that is on is the word
 -- that narrowing gives pixel n
 pub gray_is_written : (samples : List ℕ) (l : Layer) (dw dh : ℕ) (beneath : ℕ → Words) (j n : ℕ) → (l.op ≡ O.Intensity) ⊎ (l.op ≡ O.CopyBlack)
-    → index_on l dw dh j ≡ At n
+    → index_on l dw dh j ≡ Some n
     → holds l.window (j % dw) (j / dw) ≡ true
     → let gray = narrowed_pixel 1 (rgba_at (source_of samples l.source) l.source.channels n) in
     let w = composed_at samples l dw dh beneath j in

@@ -1,10 +1,8 @@
 -- What the exported calls answer, where a host's form of an answer differs from the library's. Definitions only.
-use Rattle.std.specs.Prelude.{cond, ℕ}
+use Rattle.std.specs.Prelude.{cond, ℕ, Option, Some, None}
 use Rattle.faults.specs.Faults.{NONE, OPERATOR}
 use Rattle.job.specs.Memory.{Mem}
 use Rattle.job.specs.Call.{Outcome}
-use Rattle.names.specs.declared.Named.{Named}
-use Rattle.names.specs.declared.Named.TheVariants.{Operator, Unknown}
 
 -- the number that is answered and the operator that the caller then has
 pub record NameAnswer : Type 0 where
@@ -15,9 +13,9 @@ abbrev pub named : ℕ → ℕ → NameAnswer
 named number operator = record { number = number; operator = operator }
 
 -- document 01: a refused name answers OPERATOR and no operator: the caller's is as it was before
-abbrev pub name_of : Named → ℕ → NameAnswer
-name_of (Operator n) before = named NONE n
-name_of Unknown before = named OPERATOR before
+abbrev pub name_of : Option ℕ → ℕ → NameAnswer
+name_of (Some n) before = named NONE n
+name_of None before = named OPERATOR before
 
 -- the job's memory after a call, and its answer as four numbers: finished is 1 for yes and 0 for no
 pub record HostOutcome : Type 0 where

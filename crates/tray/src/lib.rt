@@ -1,43 +1,33 @@
 // What a host calls: the names, the cards, the single composition, narrowing and the job. Each function hands its arguments on and has the contract of what
-// it calls. A picture is lent as its words, the binary32 patterns, so that a host passes its float buffer as it is. The crate tray_c exports them to C.
+// it calls. A picture is lent as its words, the binary32 patterns, so that a host passes its float buffer as it is. The crate tray_c exports them to C, whose
+// interface they have: a fault is answered by its number, and what a call answers besides is written where the host asks for it.
 #![tactic(auto)]
 
-ghost use Rattle.std.specs.Prelude.{◌≡◌, cond, pos};
-ghost use Rattle.lent.specs.Lent.{before, after};
+ghost use Rattle.std.specs.Prelude.{◌≡◌, pos};
 ghost use Rattle.names.specs.Names.{from_name};
 ghost use Rattle.pictures.specs.Shapes.{shape_of};
-ghost use Rattle.layers.specs.Inputs.{inputs};
+ghost use Rattle.layers.specs.Inputs.{inputs_of};
 ghost use Rattle.cards.specs.Answers.{answer, outcome, read_of};
 ghost use Rattle.compose.specs.Single.{composed, compose_of};
 ghost use Rattle.narrowing.specs.Narrow.{narrowed, narrow_of, narrow_bytes_of};
-ghost use Rattle.job.specs.Memory.{found, left};
+ghost use Rattle.job.specs.Memory.{mem_of};
 ghost use Rattle.job.specs.Call.{call_of};
 ghost use Rattle.tray.specs.Answers.{named, name_of, job_outcome, host_outcome};
 
 use faults::Fault;
-use names::Named;
+use layers::JobInputs;
 use pictures::Shape;
-
-// 1 for yes, 0 for no.
-fn flag(b: bool) -> u64
-    ensures { result ≡ cond b 1 0 }
-{
-    if b {
-        return 1;
-    }
-    0
-}
 
 // The operator that a name spells: 0 with its number in `operator`; or 3, with `operator` as it was.
 pub fn tray_from_name(name: &[u8], operator: &mut u64) -> u64
-    ensures { named result (after operator) ≡ name_of (from_name name.now) (before operator) }
+    ensures { named result operator.new ≡ name_of (from_name name.now) operator.old }
 {
     match names::from_name(name) {
-        Named::Operator(n) => {
-            *operator = n;
-            Fault::NONE
+        Some(number) => {
+            *operator = number;
+            0
         }
-        Named::Unknown => Fault::OPERATOR,
+        None => Fault::Operator.number(),
     }
 }
 
@@ -54,20 +44,27 @@ pub fn tray_read_card(
     channels: &mut i64,
     layers: &mut i64,
 ) -> u64
-    ensures { outcome (answer result (after line) (after width) (after height) (after channels) (after layers)) (after rows) (after words)
-        ≡ read_of text.now (before rows) (before words) }
+    ensures { outcome (answer result line.new width.new height.new channels.new layers.new) rows.new words.new
+        ≡ read_of text.now rows.old words.old }
 {
-    let a = cards::read(text, rows, words);
-    *line = a.line;
-    let wide = a.width;
-    *width = wide;
-    let high = a.height;
-    *height = high;
-    let each = a.channels;
-    *channels = each;
-    let count = a.layers;
-    *layers = count;
-    a.number
+    match cards::read(text, rows, words) {
+        Ok(header) => {
+            *line = 0;
+            *width = header.width;
+            *height = header.height;
+            *channels = header.channels;
+            *layers = header.layers;
+            0
+        }
+        Err(bad) => {
+            *line = bad.line;
+            *width = 0;
+            *height = 0;
+            *channels = 0;
+            *layers = 0;
+            Fault::Card.number()
+        }
+    }
 }
 
 // One layer on one destination: 0 and the whole picture in `out`; or the number of the first fault, with `out` as it was.
@@ -81,28 +78,28 @@ pub fn tray_compose(
     samples: &[u32],
     out: &mut [u32],
 ) -> u64
-    ensures { composed result (after out) ≡ compose_of (inputs (shape_of width height channels) dst (pos 1) table args samples) (before out) }
+    ensures { composed result out.new ≡ compose_of (inputs_of (shape_of width height channels) dst.now (pos 1) table.now args.now samples.now) out.old }
 {
     let shape = Shape {
         width,
         height,
         channels,
     };
-    compose::single::compose(shape, dst, table, args, samples, out)
+    faults::number(compose::single::compose(shape, dst, table, args, samples, out))
 }
 
 // A picture of four channels narrowed to one, three or four: 0 and the whole output; or 11, with the output as it was.
 pub fn tray_narrow(wanted: i64, input: &[u32], output: &mut [u32]) -> u64
-    ensures { narrowed result (after output) ≡ narrow_of wanted input.now (before output) }
+    ensures { narrowed result output.new ≡ narrow_of wanted input.now output.old }
 {
-    narrowing::narrow(wanted, input, output)
+    faults::number(narrowing::narrow(wanted, input, output))
 }
 
 // The same as bytes.
 pub fn tray_narrow_bytes(wanted: i64, input: &[u32], output: &mut [u8]) -> u64
-    ensures { narrowed result (after output) ≡ narrow_bytes_of wanted input.now (before output) }
+    ensures { narrowed result output.new ≡ narrow_bytes_of wanted input.now output.old }
 {
-    narrowing::narrow_bytes(wanted, input, output)
+    faults::number(narrowing::narrow_bytes(wanted, input, output))
 }
 
 // A call of a job under its number, allowed so many stores: the number of the first fault, or 0; its layer, the stores made and whether the job is
@@ -126,19 +123,40 @@ pub fn tray_job(
     stores: &mut u64,
     finished: &mut u64,
 ) -> u64
-    ensures { host_outcome (left work0 work1 checkpoint) result (after layer) (after stores) (after finished)
-        ≡ job_outcome (call_of (inputs (shape_of width height channels) dst layers table args samples) job allowance (found work0 work1 checkpoint)) }
+    ensures { let inputs = inputs_of (shape_of width height channels) dst.now layers table.now args.now samples.now in
+        host_outcome (mem_of work0.new work1.new checkpoint.new) result layer.new stores.new finished.new
+        ≡ job_outcome (call_of inputs job allowance (mem_of work0.old work1.old checkpoint.old)) }
 {
     let shape = Shape {
         width,
         height,
         channels,
     };
-    let a = job::call::run(
-        shape, dst, layers, table, args, samples, job, allowance, work0, work1, checkpoint,
-    );
-    *layer = a.layer;
-    *stores = a.stores;
-    *finished = flag(a.finished);
-    a.number
+    let inputs = JobInputs {
+        shape,
+        dst,
+        count: layers,
+        table,
+        args,
+        samples,
+    };
+    let mut memory = job::Memory {
+        work0,
+        work1,
+        checkpoint,
+    };
+    match job::call::run(inputs, job, allowance, &mut memory) {
+        Ok(progress) => {
+            *layer = 0;
+            *stores = progress.stores;
+            *finished = u64::from(progress.finished);
+            0
+        }
+        Err(refusal) => {
+            *layer = refusal.layer;
+            *stores = 0;
+            *finished = 0;
+            refusal.fault.number()
+        }
+    }
 }

@@ -3,21 +3,20 @@
 #![tactic(auto)]
 
 ghost use Rattle.std.specs.Prelude.{◌≡◌, pos};
-ghost use Rattle.lent.specs.Lent.{before, after};
 ghost use Rattle.names.specs.Names.{from_name};
 ghost use Rattle.pictures.specs.Shapes.{shape_of};
-ghost use Rattle.layers.specs.Inputs.{inputs};
+ghost use Rattle.layers.specs.Inputs.{inputs_of};
 ghost use Rattle.cards.specs.Answers.{answer, outcome, read_of};
 ghost use Rattle.compose.specs.Single.{composed, compose_of};
 ghost use Rattle.narrowing.specs.Narrow.{narrowed, narrow_of, narrow_bytes_of};
-ghost use Rattle.job.specs.Memory.{found, left};
+ghost use Rattle.job.specs.Memory.{mem_of};
 ghost use Rattle.job.specs.Call.{call_of};
 ghost use Rattle.tray.specs.Answers.{named, name_of, job_outcome, host_outcome};
 
 // The operator that a name spells: 0 with its number in `operator`; or 3, with `operator` as it was.
 #[unsafe(no_mangle)]
 pub extern "C" fn tray_from_name(name: &[u8], operator: &mut u64) -> u64
-    ensures { named result (after operator) ≡ name_of (from_name name.now) (before operator) }
+    ensures { named result operator.new ≡ name_of (from_name name.now) operator.old }
 {
     tray::tray_from_name(name, operator)
 }
@@ -36,8 +35,8 @@ pub extern "C" fn tray_read_card(
     channels: &mut i64,
     layers: &mut i64,
 ) -> u64
-    ensures { outcome (answer result (after line) (after width) (after height) (after channels) (after layers)) (after rows) (after words)
-        ≡ read_of text.now (before rows) (before words) }
+    ensures { outcome (answer result line.new width.new height.new channels.new layers.new) rows.new words.new
+        ≡ read_of text.now rows.old words.old }
 {
     tray::tray_read_card(text, rows, words, line, width, height, channels, layers)
 }
@@ -54,7 +53,7 @@ pub extern "C" fn tray_compose(
     samples: &[u32],
     out: &mut [u32],
 ) -> u64
-    ensures { composed result (after out) ≡ compose_of (inputs (shape_of width height channels) dst (pos 1) table args samples) (before out) }
+    ensures { composed result out.new ≡ compose_of (inputs_of (shape_of width height channels) dst.now (pos 1) table.now args.now samples.now) out.old }
 {
     tray::tray_compose(width, height, channels, dst, table, args, samples, out)
 }
@@ -62,7 +61,7 @@ pub extern "C" fn tray_compose(
 // A picture of four channels narrowed to one, three or four: 0 and the whole output; or 11, with the output as it was.
 #[unsafe(no_mangle)]
 pub extern "C" fn tray_narrow(wanted: i64, input: &[u32], output: &mut [u32]) -> u64
-    ensures { narrowed result (after output) ≡ narrow_of wanted input.now (before output) }
+    ensures { narrowed result output.new ≡ narrow_of wanted input.now output.old }
 {
     tray::tray_narrow(wanted, input, output)
 }
@@ -70,7 +69,7 @@ pub extern "C" fn tray_narrow(wanted: i64, input: &[u32], output: &mut [u32]) ->
 // The same as bytes.
 #[unsafe(no_mangle)]
 pub extern "C" fn tray_narrow_bytes(wanted: i64, input: &[u32], output: &mut [u8]) -> u64
-    ensures { narrowed result (after output) ≡ narrow_bytes_of wanted input.now (before output) }
+    ensures { narrowed result output.new ≡ narrow_bytes_of wanted input.now output.old }
 {
     tray::tray_narrow_bytes(wanted, input, output)
 }
@@ -97,8 +96,9 @@ pub extern "C" fn tray_job(
     stores: &mut u64,
     finished: &mut u64,
 ) -> u64
-    ensures { host_outcome (left work0 work1 checkpoint) result (after layer) (after stores) (after finished)
-        ≡ job_outcome (call_of (inputs (shape_of width height channels) dst layers table args samples) job allowance (found work0 work1 checkpoint)) }
+    ensures { let inputs = inputs_of (shape_of width height channels) dst.now layers table.now args.now samples.now in
+        host_outcome (mem_of work0.new work1.new checkpoint.new) result layer.new stores.new finished.new
+        ≡ job_outcome (call_of inputs job allowance (mem_of work0.old work1.old checkpoint.old)) }
 {
     tray::tray_job(
         width, height, channels, dst, layers, table, args, samples, job, allowance, work0, work1,

@@ -1,6 +1,6 @@
 -- Document 01, "Trial values": the starred values, proved about the definitions by one theorem over one table. A wrong value in it computes to ⊥.
 -- Floats are given by their words.
-use Rattle.std.specs.Prelude.{ℕ, Bool, true, false, cond, ◌&&◌, List, [], ◌∷◌, ◌++◌, map, T, eqb, get_or, ℤ, pos, negsuc, ◌-ℤ◌}
+use Rattle.std.specs.Prelude.{ℕ, Bool, true, false, cond, ◌&&◌, List, [], ◌∷◌, ◌++◌, map, T, eqb, get_or, ℤ, pos, negsuc, ◌-ℤ◌, Option, Some, None}
 use Prim.Native.String.{String}
 use Rattle.std.specs.Float.Ieee.{of_bits, to_bits, add, sub, mul, div, rem, lt, le, eq, is_nan}
 use Rattle.float_steps.specs.Words.{value_of, word_of}
@@ -15,8 +15,6 @@ use Rattle.operators.specs.declared.CompositeOp.TheVariants as O
 use Rattle.places.specs.Placement.{placement_of}
 use Rattle.places.specs.Indices.{axis_index}
 use Rattle.places.specs.declared.Gravity.TheVariants.{Centre}
-use Rattle.places.specs.declared.Index.{Index}
-use Rattle.places.specs.declared.Index.TheVariants.{At, Off}
 use Rattle.names.specs.Names.{bytes, entries, is_kept, lower, from_name}
 use Rattle.pictures.specs.declared.Rgba.{Rgba}
 use Rattle.blends.specs.Blends.{color_burn_of}
@@ -25,7 +23,7 @@ use Rattle.pixels.specs.Pixel.{over_by, unused, pixel_of}
 use Rattle.pictures.specs.Shapes.{nat_of, outside_z, bad_channels, shape_of, bad_shape}
 use Rattle.layers.specs.Faults.{bad_placing, bad_source, bad_window, layer_fault}
 use Rattle.layers.specs.Inputs.{Inputs, inputs_of, bad_stack, bad_dst, rows_fault, job_fault}
-use Rattle.job.specs.declared.Answer.{Answer}
+use Rattle.job.specs.Job.{Answer}
 use Rattle.job.specs.Memory.{Mem, mem_of, position_of, stored}
 use Rattle.job.specs.Job.{memory_fault, call_fault}
 use Rattle.job.specs.Call.{write_at, run_of, accepted_of, call_of}
@@ -64,9 +62,9 @@ same_integer (pos m) (negsuc n) = false
 same_integer (negsuc m) (pos n) = false
 same_integer (negsuc m) (negsuc n) = eqb m n
 
-abbrev pub is_at : Index → ℕ → Bool
-is_at (At m) n = eqb m n
-is_at Off n = false
+abbrev pub is_at : Option ℕ → ℕ → Bool
+is_at (Some m) n = eqb m n
+is_at None n = false
 
 -- what a caller is answered who has the operator 70, which is none
 abbrev pub name_answer : String → NameAnswer

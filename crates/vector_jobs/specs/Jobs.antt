@@ -1,11 +1,13 @@
 -- What a line of a job asks, call after call, and where its answers end. Definitions only.
-use Rattle.std.specs.Prelude.{cond, ◌||◌, List, [], ◌∷◌, ◌++◌, ℕ, ltb, ℤ, length, get_or, take, drop, replicate}
-use Rattle.lent.specs.Lent.{Lent, after}
-use Rattle.vector_lines.specs.declared.numbers.Integer.{Integer}
-use Rattle.vector_lines.specs.Numbers.{nowhere, expected_at, signed_at}
-use Rattle.vector_lines.specs.Lists.{Listed, longs_at}
-use Rattle.vector_rooms.specs.declared.Shaped.{Shaped}
-use Rattle.vector_rooms.specs.Rooms.{given, shape_at, Composing, composing, dst_at, lists_at, inputs_by, Worked, worked, memory_left, memory_at, left_at}
+use Rattle.std.specs.Prelude.{cond, List, [], ◌∷◌, ◌++◌, ℕ, ℤ, drop}
+use Rattle.vector_lines.specs.declared.numbers.Read.{Read}
+use Rattle.vector_lines.specs.Numbers.{nowhere, expected_at, u64_at, signed_at}
+use Rattle.pictures.specs.declared.Shape.{Shape}
+use Rattle.vector_rooms.specs.declared.Room.{Room}
+use Rattle.vector_rooms.specs.declared.Lists.{Lists}
+use Rattle.vector_rooms.specs.declared.Memory.{Memory}
+use Rattle.vector_rooms.specs.Rooms.{Placed, placed, given, room_of, room_at, no_numbers, shape_at, dst_at, layers_at, inputs_by}
+use Rattle.vector_rooms.specs.Rooms.{memory_fits, memory_at, left_at}
 use Rattle.layers.specs.Inputs.{Inputs}
 use Rattle.job.specs.Memory.{Mem, mem_of, position_of}
 use Rattle.job.specs.Call.{call_of}
@@ -41,76 +43,61 @@ calls_at line inputs (job ∷ allowance ∷ rest) p = calls_at line inputs rest 
 -- ---- a line of a job
 
 -- the parts of the lists that are lent, as many elements as each list's count says, and the lists once the parts are back
-abbrev pub lent_on : (counts : List ℕ) → Mem → Mem
-lent_on counts m = mem_of (take (get_or counts 5 0) m.work0) (take (get_or counts 6 0) m.work1) (take (get_or counts 7 0) m.checkpoint)
+abbrev pub lent_on : Memory → Mem
+lent_on m = mem_of (given m.work0) (given m.work1) (given m.checkpoint)
 
-abbrev pub back_on : (counts : List ℕ) → Mem → Mem → Mem
-back_on counts m part =
-    mem_of
-    (part.work0 ++ drop (get_or counts 5 0) m.work0)
-    (part.work1 ++ drop (get_or counts 6 0) m.work1)
-    (part.checkpoint ++ drop (get_or counts 7 0) m.checkpoint)
+abbrev pub back_in : {n : ℕ} → Room ℕ n → List ℕ → Room ℕ n
+back_in r part = room_of (part ++ drop r.count r.items) r.count
 
-abbrev pub back_from : (counts : List ℕ) → Mem → Played → Played
-back_from counts m p = played p.next (back_on counts m p.mem)
+abbrev pub back_on : Memory → Mem → Memory
+back_on m part = record {
+  work0 = back_in m.work0 part.work0;
+  work1 = back_in m.work1 part.work1;
+  checkpoint = back_in m.checkpoint part.checkpoint;
+}
+
+abbrev pub back_from : Memory → Played → Placed Memory
+back_from m p = placed p.next (back_on m p.mem)
 
 -- no call is made where a count is more than there is room for
-unfoldable pub called_at : List ℕ → Inputs → (calls counts : List ℕ) → Played → Played
-called_at line inputs calls counts p =
-    cond
-    (ltb (length p.mem.work0) (get_or counts 5 0)
-    || ltb (length p.mem.work1) (get_or counts 6 0)
-    || ltb (length p.mem.checkpoint) (get_or counts 7 0))
-    (played nowhere p.mem)
-    (back_from counts p.mem (calls_at line inputs calls (played p.next (lent_on counts p.mem))))
+unfoldable pub called_at : List ℕ → Inputs → (calls : List ℕ) → Placed Memory → Placed Memory
+called_at line inputs calls p =
+    cond (memory_fits p.kept) (back_from p.kept (calls_at line inputs calls (played p.next (lent_on p.kept)))) (placed nowhere p.kept)
 
 -- the calls, and after them the memory that they must leave; '=' there is the memory before them
-unfoldable pub left_on : List ℕ → Worked → Played → Worked
-left_on line w p =
-    left_at line (worked p.next w.work0 w.work1 w.checkpoint w.counts) p.mem.work0 p.mem.work1 p.mem.checkpoint
+unfoldable pub left_on : List ℕ → Memory → Placed Memory → Placed Memory
+left_on line due p = left_at line (placed p.next due) p.kept
 
-unfoldable pub called_on : List ℕ → Inputs → Worked → Listed ℕ → Worked
-called_on line inputs w calls =
-    left_on line w
-    (called_at line inputs (given calls) w.counts (played calls.next (mem_of w.work0 w.work1 w.checkpoint)))
+unfoldable pub called_on : List ℕ → Inputs → Memory → Placed (Room ℕ 32) → Placed Memory
+called_on line inputs m calls = left_on line m (called_at line inputs (given calls.kept) (placed calls.next m))
 
-unfoldable pub asked_at : List ℕ → Inputs → Worked → Worked
-asked_at line inputs w = called_on line inputs w (longs_at line w.next (replicate 32 0) 0)
+unfoldable pub asked_at : List ℕ → Inputs → Placed Memory → Placed Memory
+asked_at line inputs p = called_on line inputs p.kept (room_at (u64_at line) line p.next (no_numbers 32))
 
 -- WORK0 WORK1 MARK CALLS: the calls' answers, WORK0 WORK1 MARK
-abbrev pub played_at : List ℕ → Inputs → Worked → Worked
-played_at line inputs w = asked_at line inputs (memory_at line w)
+abbrev pub played_at : List ℕ → Inputs → Placed Memory → Placed Memory
+played_at line inputs p = asked_at line inputs (memory_at line p)
 
--- the lists of the layers, and those of the memory with the place and all the counts
+-- the lists of the layers, and those of the memory with the place
 pub record Jobbed : Type 0 where
-  pub dst : List ℕ
-  pub table : List ℤ
-  pub args : List ℕ
-  pub samples : List ℕ
-  pub work : Worked
+  pub lists : Lists
+  pub work : Placed Memory
 
-abbrev pub jobbed : List ℕ → List ℤ → (args samples : List ℕ) → Worked → Jobbed
-jobbed dst table args samples work = record { dst = dst; table = table; args = args; samples = samples; work = work }
+abbrev pub jobbed : Lists → Placed Memory → Jobbed
+jobbed lists work = record { lists = lists; work = work }
 
-abbrev pub job_left : ℕ → Lent (List ℕ) → Lent (List ℤ) → (args samples work0 work1 checkpoint counts : Lent (List ℕ)) → Jobbed
-job_left next dst table args samples work0 work1 checkpoint counts =
-    jobbed (after dst) (after table) (after args) (after samples) (memory_left next work0 work1 checkpoint counts)
+unfoldable pub job_on : List ℕ → Shape → ℤ → Placed Lists → Memory → Jobbed
+job_on line shape layers p m = jobbed p.kept (played_at line (inputs_by shape layers p.kept) (placed p.next m))
 
-unfoldable pub job_on : List ℕ → Shaped → ℤ → Composing → Mem → Jobbed
-job_on line shape layers s m =
-    jobbed s.dst s.table s.args s.samples
-    (played_at line (inputs_by shape layers s) (worked s.next m.work0 m.work1 m.checkpoint s.counts))
+unfoldable pub job_with : List ℕ → Shape → Lists → Memory → Read ℤ → Jobbed
+job_with line shape l m layers = job_on line shape layers.value (layers_at line (placed layers.next l)) m
 
-unfoldable pub job_with : List ℕ → Shaped → Composing → Mem → Integer → Jobbed
-job_with line shape s m layers =
-    job_on line shape layers.value (lists_at line (composing layers.next s.dst s.table s.args s.samples s.counts)) m
+unfoldable pub job_from : List ℕ → Shape → Placed Lists → Memory → Jobbed
+job_from line shape p m = job_with line shape p.kept m (signed_at line p.next)
 
-unfoldable pub job_from : List ℕ → Shaped → Composing → Mem → Jobbed
-job_from line shape s m = job_with line shape s m (signed_at line s.next)
-
-unfoldable pub job_by : List ℕ → Shaped → Composing → Mem → Jobbed
-job_by line shape s m = job_from line shape (dst_at line (composing shape.next s.dst s.table s.args s.samples s.counts)) m
+unfoldable pub job_by : List ℕ → Read Shape → Lists → Memory → Jobbed
+job_by line shape l m = job_from line shape.value (dst_at line (placed shape.next l)) m
 
 -- J width height channels DST layers TABLE ARGS SAMPLES, and the above
-abbrev pub job_at : List ℕ → Composing → Mem → Jobbed
+abbrev pub job_at : List ℕ → Lists → Memory → Jobbed
 job_at line = job_by line (shape_at line)

@@ -1,4 +1,2 @@
 pub mod Digits
-pub mod Reading
 pub mod Filling
-pub mod Same

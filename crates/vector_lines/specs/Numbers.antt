@@ -1,9 +1,8 @@
 -- What a token and a number of a line mean; oracle/README.md has the form. A place is counted from the line's start. Once something is
 -- malformed the place is `nowhere`, and past a line's end there is neither a space nor a digit, so it stays `nowhere`.
-use Rattle.std.specs.Prelude.{Bool, false, cond, ◌&&◌, List, [], ◌∷◌, ℕ, ◌+◌, ◌-◌, ◌*◌, eqb, ltb, length, get_or, drop, ℤ, pos, negsuc}
-use Rattle.vector_lines.specs.declared.numbers.Head.{Head}
-use Rattle.vector_lines.specs.declared.numbers.Integer.{Integer}
-use Rattle.vector_lines.specs.declared.numbers.Unsigned.{Unsigned}
+use Rattle.std.specs.Prelude.{Bool, cond, ◌&&◌, List, [], ◌∷◌, ℕ, ◌+◌, ◌-◌, ◌*◌, eqb, ltb, length, get_or, drop, ℤ, pos, negsuc, Option, Some, None}
+use Rattle.std.specs.Ordering.{int_eq}
+use Rattle.vector_lines.specs.declared.numbers.Read.{Read}
 
 abbrev pub nowhere : ℕ
 nowhere = 18446744073709551615
@@ -30,6 +29,10 @@ token_at line at = cond (eqb (byte_of line at) 32) (past_of at) nowhere
 unfoldable pub digit_of : ℕ → ℕ
 digit_of b = cond (ltb b 48) 16 (cond (ltb b 58) (b - 48) (cond (ltb b 97) 16 (cond (ltb b 103) (b - 87) 16)))
 
+-- the digit that a byte is, if it is one
+abbrev pub digit_in : ℕ → Option ℕ
+digit_in b = cond (ltb (digit_of b) 16) (Some (digit_of b)) None
+
 -- the digits that a text begins with, by their values
 unfoldable pub digits_of : List ℕ → List ℕ
 digits_of [] = []
@@ -40,70 +43,82 @@ unfoldable pub value_of : ℕ → List ℕ → ℕ
 value_of v [] = v
 value_of v (d ∷ ds) = value_of (v * 16 + d) ds
 
-abbrev pub none : Unsigned
+abbrev pub none : Read ℕ
 none = record { value = 0; next = nowhere }
 
 -- a number of at most `most`, and the place after it
-abbrev pub up_to : ℕ → ℕ → ℕ → Unsigned
+abbrev pub up_to : ℕ → ℕ → ℕ → Read ℕ
 up_to most v next = cond (ltb most v) none (record { value = v; next = next })
 
 -- the number whose digits go on at a place after those that spell v: at most 64 binary digits
-abbrev pub gone_on : List ℕ → ℕ → ℕ → Unsigned
+abbrev pub gone_on : List ℕ → ℕ → ℕ → Read ℕ
 gone_on line at v = up_to largest (value_of v (digits_of (drop at line))) (at + length (digits_of (drop at line)))
 
 -- digits at a place as a number: at least one, no zero before others, at most 64 binary digits (which is sixteen of these)
-unfoldable pub spelt : ℕ → List ℕ → Unsigned
+unfoldable pub spelt : ℕ → List ℕ → Read ℕ
 spelt at [] = none
 spelt at (d ∷ ds) = cond (eqb d 0 && ltb 0 (length ds)) none (up_to largest (value_of d ds) (at + 1 + length ds))
 
-abbrev pub digits_at : List ℕ → ℕ → Unsigned
+abbrev pub digits_at : List ℕ → ℕ → Read ℕ
 digits_at line at = spelt at (digits_of (drop at line))
 
 -- the same, if it is at most `most`
-abbrev pub short_at : ℕ → List ℕ → ℕ → Unsigned
+abbrev pub short_at : ℕ → List ℕ → ℕ → Read ℕ
 short_at most line at = up_to most (digits_at line at).value (digits_at line at).next
 
 -- the number after a space
-abbrev pub number_at : ℕ → List ℕ → ℕ → Unsigned
+abbrev pub number_at : ℕ → List ℕ → ℕ → Read ℕ
 number_at most line at = short_at most line (token_at line at)
 
+-- each kind of number that lists have: bytes, 32-bit words and 64-bit numbers; signed ones are below
+unfoldable pub u8_at : List ℕ → ℕ → Read ℕ
+u8_at = number_at 255
+
+unfoldable pub u32_at : List ℕ → ℕ → Read ℕ
+u32_at = number_at 4294967295
+
+unfoldable pub u64_at : List ℕ → ℕ → Read ℕ
+u64_at = number_at largest
+
+-- the place after what was read, if it is `value` by a test of two numbers
+unfoldable pub expected_by : {A : Type 0} → (A → A → Bool) → Read A → A → ℕ
+expected_by test n value = cond (test n.value value) n.next nowhere
+
 -- the place after a number that must be `value`
-unfoldable pub expected_at : List ℕ → ℕ → ℕ → ℕ
-expected_at line at value = cond (eqb (number_at largest line at).value value) (number_at largest line at).next nowhere
+abbrev pub expected_at : List ℕ → ℕ → ℕ → ℕ
+expected_at line at = expected_by eqb (u64_at line at)
 
 -- a signed number after a space: one below zero is '~' and its complement, -1 - n; both have at most 63 binary digits
-abbrev pub integer_of : Unsigned → Integer
+abbrev pub integer_of : Read ℕ → Read ℤ
 integer_of n = record { value = pos n.value; next = n.next }
 
-abbrev pub complement_of : Unsigned → Integer
+abbrev pub complement_of : Read ℕ → Read ℤ
 complement_of n = record { value = negsuc n.value; next = n.next }
 
-abbrev pub signed_by : List ℕ → ℕ → Integer
+abbrev pub signed_by : List ℕ → ℕ → Read ℤ
 signed_by line start =
     cond (eqb (byte_of line start) 126) (complement_of (short_at most_signed line (past_of start))) (integer_of (short_at most_signed line start))
 
-abbrev pub signed_at : List ℕ → ℕ → Integer
+unfoldable pub signed_at : List ℕ → ℕ → Read ℤ
 signed_at line at = signed_by line (token_at line at)
 
--- whether two signed numbers are the same, and the place after one that must be `value`
-unfoldable pub eq_z : ℤ → ℤ → Bool
-eq_z (pos m) (pos n) = eqb m n
-eq_z (pos m) (negsuc n) = false
-eq_z (negsuc m) (pos n) = false
-eq_z (negsuc m) (negsuc n) = eqb m n
-
-unfoldable pub expected_signed_at : List ℕ → ℕ → ℤ → ℕ
-expected_signed_at line at value = cond (eq_z (signed_at line at).value value) (signed_at line at).next nowhere
+-- the place after a signed number that must be `value`
+abbrev pub expected_signed_at : List ℕ → ℕ → ℤ → ℕ
+expected_signed_at line at = expected_by int_eq (signed_at line at)
 
 -- what stands in the place of a list that has room for `room` numbers: '=', after which none follow, or their count
 abbrev pub kept_at : List ℕ → ℕ → Bool
 kept_at line at = eqb (byte_of line (token_at line at)) 61
 
-abbrev pub head_at : ℕ → List ℕ → ℕ → Head
+-- the place after '=', if it stands there
+abbrev pub kept_past_at : List ℕ → ℕ → Option ℕ
+kept_past_at line at = cond (kept_at line at) (Some (past_of (token_at line at))) None
+
+abbrev pub head_at : ℕ → List ℕ → ℕ → Read ℕ
 head_at room line at =
     cond (kept_at line at)
-    (record { count = 0; next = past_of (token_at line at) })
-    (record { count = (number_at room line at).value; next = (number_at room line at).next })
+    (record { value = 0; next = past_of (token_at line at) })
+    (number_at room line at)
 
 -- a list's count after that: '=' keeps it
 abbrev pub count_at : ℕ → List ℕ → ℕ → ℕ → ℕ

@@ -5,10 +5,8 @@
 mod lists;
 mod numbers;
 
-pub use lists::{
-    bytes, first_bytes, first_integers, first_longs, first_words, if_same, integers, longs,
-    same_integers, same_longs, same_words, words,
-};
-pub use numbers::{Integer, Unsigned, expect, expect_signed, number, number_up_to, signed};
+pub use lists::{if_same, list};
+pub use numbers::{Number, Read, expect, number_up_to};
 
+// A number and no Option: each contract's definition reads on from `nowhere`, as from any place past the line's end, and fills what follows with zeros.
 pub const NOWHERE: usize = 0xffff_ffff_ffff_ffff;

@@ -1,171 +1,149 @@
--- The lists that lines share (oracle/README.md): each is read over what it was, and its count stands at its place among the counts: DST 0, TABLE 1, ARGS 2,
--- SAMPLES 3, INPUT 4, WORK0 5, WORK1 6, MARK 7. `.._found` and `.._left` are the lists that a function is lent, by its parameters, as it finds them and as it
--- leaves them. Definitions only.
-use Rattle.std.specs.Prelude.{List, ℕ, eqb, ℤ, get_or, set, take}
-use Rattle.lent.specs.Lent.{Lent, Shown, before, after}
-use Rattle.vector_lines.specs.declared.numbers.Integer.{Integer}
-use Rattle.vector_lines.specs.Numbers.{signed_at}
-use Rattle.vector_lines.specs.Lists.{Listed, words_at, longs_at, integers_at, same, if_same}
-use Rattle.pictures.specs.Shapes.{shape_of}
-use Rattle.layers.specs.Inputs.{Inputs, inputs_of, inputs}
-use Rattle.vector_rooms.specs.declared.Shaped.{Shaped}
+-- The lists that lines share (oracle/README.md): each is read over what it was, and a list's numbers are the first `count` items of its room. Definitions only.
+use Rattle.std.specs.Prelude.{Bool, ◌&&◌, List, ℕ, eqb, leb, ℤ, pos, length, take, replicate}
+use Rattle.std.specs.Cmp.Lexicographic.{pointwise}
+use Rattle.vector_lines.specs.declared.numbers.Read.{Read}
+use Rattle.vector_lines.specs.Numbers.{u32_at, u64_at, signed_at}
+use Rattle.vector_lines.specs.Lists.{Listed, list_by, if_same}
+use Rattle.pictures.specs.declared.Shape.{Shape}
+use Rattle.pictures.specs.Shapes as Shapes
+use Rattle.layers.specs.Inputs.{Inputs, inputs_of}
+use Rattle.vector_rooms.specs.declared.Room.{Room}
+use Rattle.vector_rooms.specs.declared.Lists.{Lists}
+use Rattle.vector_rooms.specs.declared.Asked.{Asked}
+use Rattle.vector_rooms.specs.declared.Memory.{Memory}
+use Rattle.vector_rooms.specs.declared.Rooms.{Rooms}
 
--- what a list has that was read
-abbrev pub given : {A : Type 0} → Listed A → List A
-given l = take l.count l.list
+-- a place in a line, and what is kept when it is reached
+pub record Placed (K : Type 0) : Type 0 where
+  pub next : ℕ
+  pub kept : K
+
+abbrev pub placed : {K : Type 0} → ℕ → K → Placed K
+placed next kept = record { next = next; kept = kept }
+
+-- ---- one list
+
+abbrev pub room_of : {A : Type 0} {n : ℕ} → List A → ℕ → Room A n
+room_of items count = record { items = items; count = count }
+
+-- the numbers of a list
+abbrev pub given : {A : Type 0} {n : ℕ} → Room A n → List A
+given r = take r.count r.items
+
+-- the count is no more than there is room for
+abbrev pub fits : {A : Type 0} {n : ℕ} → Room A n → Bool
+fits r = leb r.count (length r.items)
+
+abbrev pub room_by : {A : Type 0} {n : ℕ} → Listed A → Placed (Room A n)
+room_by l = placed l.next (room_of l.list l.count)
+
+-- a list that is read at a place over what it was
+abbrev pub room_at : {A : Type 0} {n : ℕ} → (ℕ → Read A) → List ℕ → ℕ → Room A n → Placed (Room A n)
+room_at read line at r = room_by (list_by read line at r.items r.count)
+
+-- whether two lists have the same room and count, by a test of two elements
+abbrev pub same_room : {A : Type 0} {n : ℕ} → (A → A → Bool) → (a b : Room A n) → Bool
+same_room test a b = pointwise test a.items b.items && eqb a.count b.count
 
 -- ---- width height channels
 
-abbrev pub shaped_of : (width height channels : Integer) → Shaped
-shaped_of width height channels =
-    record { width = width.value; height = height.value; channels = channels.value; next = channels.next }
+abbrev pub shaped_of : (width height channels : Read ℤ) → Read Shape
+shaped_of width height channels = record { value = Shapes.shape_of width.value height.value channels.value; next = channels.next }
 
-unfoldable pub channels_at : List ℕ → (width height : Integer) → Shaped
+unfoldable pub channels_at : List ℕ → (width height : Read ℤ) → Read Shape
 channels_at line width height = shaped_of width height (signed_at line height.next)
 
-unfoldable pub height_at : List ℕ → (width : Integer) → Shaped
+unfoldable pub height_at : List ℕ → (width : Read ℤ) → Read Shape
 height_at line width = channels_at line width (signed_at line width.next)
 
-abbrev pub shape_at : List ℕ → Shaped
+abbrev pub shape_at : List ℕ → Read Shape
 shape_at line = height_at line (signed_at line 1)
 
--- ---- TABLE ARGS SAMPLES
+-- ---- DST, TABLE ARGS SAMPLES
 
--- a place in a line, the lists and all the counts
-pub record Layered : Type 0 where
-  pub next : ℕ
-  pub table : List ℤ
-  pub args : List ℕ
-  pub samples : List ℕ
-  pub counts : List ℕ
+abbrev pub with_dst : Lists → Placed (Room ℕ 256) → Placed Lists
+with_dst l r = placed r.next (record { dst = r.kept; table = l.table; args = l.args; samples = l.samples })
 
-abbrev pub layered : ℕ → List ℤ → (args samples counts : List ℕ) → Layered
-layered next table args samples counts = record { next = next; table = table; args = args; samples = samples; counts = counts }
+abbrev pub with_table : Lists → Placed (Room ℤ 320) → Placed Lists
+with_table l r = placed r.next (record { dst = l.dst; table = r.kept; args = l.args; samples = l.samples })
 
-abbrev pub layers_found : ℕ → Lent (List ℤ) → (args samples counts : Lent (List ℕ)) → Layered
-layers_found next table args samples counts = layered next (before table) (before args) (before samples) (before counts)
+abbrev pub with_args : Lists → Placed (Room ℕ 128) → Placed Lists
+with_args l r = placed r.next (record { dst = l.dst; table = l.table; args = r.kept; samples = l.samples })
 
-abbrev pub layers_left : ℕ → Lent (List ℤ) → (args samples counts : Lent (List ℕ)) → Layered
-layers_left next table args samples counts = layered next (after table) (after args) (after samples) (after counts)
+abbrev pub with_samples : Lists → Placed (Room ℕ 2048) → Placed Lists
+with_samples l r = placed r.next (record { dst = l.dst; table = l.table; args = l.args; samples = r.kept })
 
-abbrev pub with_table : Layered → Listed ℤ → Layered
-with_table s l = layered l.next l.list s.args s.samples (set s.counts 1 l.count)
+unfoldable pub dst_at : List ℕ → Placed Lists → Placed Lists
+dst_at line p = with_dst p.kept (room_at (u32_at line) line p.next p.kept.dst)
 
-abbrev pub with_args : Layered → Listed ℕ → Layered
-with_args s l = layered l.next s.table l.list s.samples (set s.counts 2 l.count)
+unfoldable pub table_at : List ℕ → Placed Lists → Placed Lists
+table_at line p = with_table p.kept (room_at (signed_at line) line p.next p.kept.table)
 
-abbrev pub with_samples : Layered → Listed ℕ → Layered
-with_samples s l = layered l.next s.table s.args l.list (set s.counts 3 l.count)
+unfoldable pub args_at : List ℕ → Placed Lists → Placed Lists
+args_at line p = with_args p.kept (room_at (u32_at line) line p.next p.kept.args)
 
-unfoldable pub table_at : List ℕ → Layered → Layered
-table_at line s = with_table s (integers_at line s.next s.table (get_or s.counts 1 0))
+unfoldable pub samples_at : List ℕ → Placed Lists → Placed Lists
+samples_at line p = with_samples p.kept (room_at (u32_at line) line p.next p.kept.samples)
 
-unfoldable pub args_at : List ℕ → Layered → Layered
-args_at line s = with_args s (words_at line s.next s.args (get_or s.counts 2 0))
+abbrev pub layers_at : List ℕ → Placed Lists → Placed Lists
+layers_at line p = samples_at line (args_at line (table_at line p))
 
-unfoldable pub samples_at : List ℕ → Layered → Layered
-samples_at line s = with_samples s (words_at line s.next s.samples (get_or s.counts 3 0))
+-- the inputs that the lists have, with a shape and a count of layers; and those that a function is lent
+abbrev pub inputs_by : Shape → ℤ → Lists → Inputs
+inputs_by shape layers l = inputs_of shape (given l.dst) layers (given l.table) (given l.args) (given l.samples)
 
-abbrev pub layers_at : List ℕ → Layered → Layered
-layers_at line s = samples_at line (args_at line (table_at line s))
+abbrev pub inputs_in : Asked → Inputs
+inputs_in a = inputs_of a.shape a.dst.now a.layers a.table.now a.args.now a.samples.now
 
--- ---- DST, and the lists of the layers
-
--- a place in a line, DST and the lists of the layers, and all the counts
-pub record Composing : Type 0 where
-  pub next : ℕ
-  pub dst : List ℕ
-  pub table : List ℤ
-  pub args : List ℕ
-  pub samples : List ℕ
-  pub counts : List ℕ
-
-abbrev pub composing : ℕ → List ℕ → List ℤ → (args samples counts : List ℕ) → Composing
-composing next dst table args samples counts =
-    record { next = next; dst = dst; table = table; args = args; samples = samples; counts = counts }
-
-abbrev pub lists_found : ℕ → Lent (List ℕ) → Lent (List ℤ) → (args samples counts : Lent (List ℕ)) → Composing
-lists_found next dst table args samples counts =
-    composing next (before dst) (before table) (before args) (before samples) (before counts)
-
-abbrev pub lists_left : ℕ → Lent (List ℕ) → Lent (List ℤ) → (args samples counts : Lent (List ℕ)) → Composing
-lists_left next dst table args samples counts = composing next (after dst) (after table) (after args) (after samples) (after counts)
-
-abbrev pub with_dst : Composing → Listed ℕ → Composing
-with_dst s l = composing l.next l.list s.table s.args s.samples (set s.counts 0 l.count)
-
-abbrev pub with_layers : Composing → Layered → Composing
-with_layers s l = composing l.next s.dst l.table l.args l.samples l.counts
-
-unfoldable pub dst_at : List ℕ → Composing → Composing
-dst_at line s = with_dst s (words_at line s.next s.dst (get_or s.counts 0 0))
-
-unfoldable pub lists_at : List ℕ → Composing → Composing
-lists_at line s = with_layers s (layers_at line (layered s.next s.table s.args s.samples s.counts))
-
--- the inputs that the lists have, with a count of layers; and those that a function is lent, by its parameters
-abbrev pub inputs_by : Shaped → ℤ → Composing → Inputs
-inputs_by shape layers s =
-    inputs_of (shape_of shape.width shape.height shape.channels) (take (get_or s.counts 0 0) s.dst) layers
-    (take (get_or s.counts 1 0) s.table) (take (get_or s.counts 2 0) s.args) (take (get_or s.counts 3 0) s.samples)
-
-abbrev pub inputs_in : Shaped → (dst : Shown (List ℕ)) → ℤ → (table : Shown (List ℤ)) → (args samples : Shown (List ℕ)) → Inputs
-inputs_in shape = inputs (shape_of shape.width shape.height shape.channels)
+-- the same for one layer
+abbrev pub single_in : Asked → Inputs
+single_in a = inputs_of a.shape a.dst.now (pos 1) a.table.now a.args.now a.samples.now
 
 -- ---- WORK0 WORK1 MARK
 
-pub record Worked : Type 0 where
-  pub next : ℕ
-  pub work0 : List ℕ
-  pub work1 : List ℕ
-  pub checkpoint : List ℕ
-  pub counts : List ℕ
+abbrev pub memory_fits : Memory → Bool
+memory_fits m = fits m.work0 && (fits m.work1 && fits m.checkpoint)
 
-abbrev pub worked : ℕ → (work0 work1 checkpoint counts : List ℕ) → Worked
-worked next work0 work1 checkpoint counts = record { next = next; work0 = work0; work1 = work1; checkpoint = checkpoint; counts = counts }
+abbrev pub with_work0 : Memory → Placed (Room ℕ 256) → Placed Memory
+with_work0 m r = placed r.next (record { work0 = r.kept; work1 = m.work1; checkpoint = m.checkpoint })
 
-abbrev pub memory_found : ℕ → (work0 work1 checkpoint counts : Lent (List ℕ)) → Worked
-memory_found next work0 work1 checkpoint counts = worked next (before work0) (before work1) (before checkpoint) (before counts)
+abbrev pub with_work1 : Memory → Placed (Room ℕ 256) → Placed Memory
+with_work1 m r = placed r.next (record { work0 = m.work0; work1 = r.kept; checkpoint = m.checkpoint })
 
-abbrev pub memory_left : ℕ → (work0 work1 checkpoint counts : Lent (List ℕ)) → Worked
-memory_left next work0 work1 checkpoint counts = worked next (after work0) (after work1) (after checkpoint) (after counts)
+abbrev pub with_checkpoint : Memory → Placed (Room ℕ 4) → Placed Memory
+with_checkpoint m r = placed r.next (record { work0 = m.work0; work1 = m.work1; checkpoint = r.kept })
 
-abbrev pub with_work0 : Worked → Listed ℕ → Worked
-with_work0 s l = worked l.next l.list s.work1 s.checkpoint (set s.counts 5 l.count)
+unfoldable pub work0_at : List ℕ → Placed Memory → Placed Memory
+work0_at line p = with_work0 p.kept (room_at (u32_at line) line p.next p.kept.work0)
 
-abbrev pub with_work1 : Worked → Listed ℕ → Worked
-with_work1 s l = worked l.next s.work0 l.list s.checkpoint (set s.counts 6 l.count)
+unfoldable pub work1_at : List ℕ → Placed Memory → Placed Memory
+work1_at line p = with_work1 p.kept (room_at (u32_at line) line p.next p.kept.work1)
 
-abbrev pub with_checkpoint : Worked → Listed ℕ → Worked
-with_checkpoint s l = worked l.next s.work0 s.work1 l.list (set s.counts 7 l.count)
+unfoldable pub checkpoint_at : List ℕ → Placed Memory → Placed Memory
+checkpoint_at line p = with_checkpoint p.kept (room_at (u64_at line) line p.next p.kept.checkpoint)
 
-unfoldable pub work0_at : List ℕ → Worked → Worked
-work0_at line s = with_work0 s (words_at line s.next s.work0 (get_or s.counts 5 0))
+abbrev pub memory_at : List ℕ → Placed Memory → Placed Memory
+memory_at line p = checkpoint_at line (work1_at line (work0_at line p))
 
-unfoldable pub work1_at : List ℕ → Worked → Worked
-work1_at line s = with_work1 s (words_at line s.next s.work1 (get_or s.counts 6 0))
+-- the memory that must be left, once it is read: its place, if it is what the calls left, as many numbers and the same; and the memory, which is kept for
+-- the next line
+abbrev pub same_memory : (a b : Memory) → Bool
+same_memory a b = same_room eqb a.work0 b.work0 && (same_room eqb a.work1 b.work1 && same_room eqb a.checkpoint b.checkpoint)
 
-unfoldable pub checkpoint_at : List ℕ → Worked → Worked
-checkpoint_at line s = with_checkpoint s (longs_at line s.next s.checkpoint (get_or s.counts 7 0))
+unfoldable pub left_by : (memory : Memory) → (due : Placed Memory) → Placed Memory
+left_by memory due = placed (if_same (same_memory due.kept memory) due.next) due.kept
 
-abbrev pub memory_at : List ℕ → Worked → Worked
-memory_at line s = checkpoint_at line (work1_at line (work0_at line s))
+abbrev pub left_at : List ℕ → Placed Memory → (memory : Memory) → Placed Memory
+left_at line due memory = left_by memory (memory_at line due)
 
--- the place after a list that must be `got`: it has as many elements as before, and the same
-abbrev pub as_before : (was count : ℕ) → (due got : List ℕ) → (next : ℕ) → ℕ
-as_before was count due got next = if_same (eqb count was) (if_same (same due got) next)
+-- ---- before the first line
 
--- the memory that must be left, `due`, once it is read: its place, if it is what the calls left, and the memory, which is kept for the next line
-unfoldable pub left_by : (counts work0 work1 checkpoint : List ℕ) → (due : Worked) → Worked
-left_by counts work0 work1 checkpoint due =
-    worked
-    (as_before (get_or counts 7 0) (get_or due.counts 7 0) due.checkpoint checkpoint
-    (as_before (get_or counts 6 0) (get_or due.counts 6 0) due.work1 work1
-    (as_before (get_or counts 5 0) (get_or due.counts 5 0) due.work0 work0 due.next)))
-    due.work0
-    due.work1
-    due.checkpoint
-    due.counts
+abbrev pub no_numbers : {n : ℕ} → ℕ → Room ℕ n
+no_numbers room = room_of (replicate room 0) 0
 
-abbrev pub left_at : List ℕ → Worked → (work0 work1 checkpoint : List ℕ) → Worked
-left_at line due work0 work1 checkpoint = left_by due.counts work0 work1 checkpoint (memory_at line due)
+abbrev pub nothing_kept : Rooms
+nothing_kept = record {
+  lists = record { dst = no_numbers 256; table = room_of (replicate 320 (pos 0)) 0; args = no_numbers 128; samples = no_numbers 2048 };
+  input = no_numbers 256;
+  memory = record { work0 = no_numbers 256; work1 = no_numbers 256; checkpoint = no_numbers 4 };
+}

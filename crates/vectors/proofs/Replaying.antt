@@ -3,50 +3,43 @@ use mathlib.Core.Path.{◌≡◌, ap}
 use mathlib.Core.Bool.{true, false}
 use mathlib.Core.List.{List}
 use Prim.Native.Nat.{ℕ}
-use lib.IntN.{ℤ}
-use lib.ListN.{get_or, set}
 use borrow.Author.Tests.{ne_eqb}
 use Rattle.vector_lines.specs.Numbers.{nowhere}
 use Rattle.verdicts.specs.Lines.{first_of, answer}
-use Rattle.job.specs.Memory.{mem_of}
-use Rattle.vector_rooms.specs.Rooms.{Composing, composing, worked}
-use Rattle.vector_cases.specs.Cases.{name_at, input_at, narrowing_at, composition_at, card_at}
+use Rattle.vector_rooms.specs.declared.Room.{Room}
+use Rattle.vector_rooms.specs.declared.Lists.{Lists}
+use Rattle.vector_rooms.specs.declared.Memory.{Memory}
+use Rattle.vector_rooms.specs.declared.Rooms.{Rooms}
+use Rattle.vector_rooms.specs.Rooms.{Placed, placed}
+use Rattle.vector_cases.specs.Cases.{name_at, narrowing_at, composition_at, card_at}
 use Rattle.vector_jobs.specs.Jobs.{Jobbed, jobbed, job_at}
-use Rattle.vectors.specs.Replay.{Kept, kept, after_composition, after_job, replayed_at}
+use Rattle.vectors.specs.Replay.{after_narrowing, after_composition, after_job, replayed_at}
 
-module _ (line dst args samples input work0 work1 checkpoint counts : List ℕ) (table : List ℤ) (b : ℕ) (is : b ≡ first_of line) where
-  -- what the lines before have kept
-  abbrev pub k : Kept
-  k = kept dst table args samples input work0 work1 checkpoint counts
-
+-- k is what the lines before have kept
+module _ (line : List ℕ) (k : Rooms) (b : ℕ) (is : b ≡ first_of line) where
   pub a_name : {r : ℕ} → b ≡ 70 → r ≡ name_at line → answer r k ≡ replayed_at line k
   unfolding replayed_at
   a_name e n = rw (← is, e, n)
 
-  -- the narrowing, the input that was read and its count
-  module _ {r count : ℕ} {read : List ℕ} (l : read ≡ (input_at line input (get_or counts 4 0)).list) (c : count ≡ (input_at line input (get_or counts 4 0)).count) where
-    pub to_words : b ≡ 78 → r ≡ narrowing_at false line input (get_or counts 4 0)
-        → answer r (kept dst table args samples read work0 work1 checkpoint (set counts 4 count)) ≡ replayed_at line k
-    unfolding replayed_at
-    to_words e n = rw (← is, e, n, l, c)
+  pub to_words : {r : ℕ} {input : Room ℕ 256} → b ≡ 78 → placed r input ≡ narrowing_at false line k.input
+      → after_narrowing k (placed r input) ≡ replayed_at line k
+  unfolding replayed_at
+  to_words e x = rw (← is, e) (ap (λ (p : Placed (Room ℕ 256)). after_narrowing k p) x)
 
-    pub to_bytes : b ≡ 66 → r ≡ narrowing_at true line input (get_or counts 4 0)
-        → answer r (kept dst table args samples read work0 work1 checkpoint (set counts 4 count)) ≡ replayed_at line k
-    unfolding replayed_at
-    to_bytes e n = rw (← is, e, n, l, c)
+  pub to_bytes : {r : ℕ} {input : Room ℕ 256} → b ≡ 66 → placed r input ≡ narrowing_at true line k.input
+      → after_narrowing k (placed r input) ≡ replayed_at line k
+  unfolding replayed_at
+  to_bytes e x = rw (← is, e) (ap (λ (p : Placed (Room ℕ 256)). after_narrowing k p) x)
 
-  -- the lists of the layers that were read, and their counts
-  module _ {p : ℕ} {d a s c : List ℕ} {t : List ℤ} where
-    pub a_composition : b ≡ 67 → composing p d t a s c ≡ composition_at line (composing 0 dst table args samples counts)
-        → answer p (kept d t a s input work0 work1 checkpoint c) ≡ replayed_at line k
-    unfolding replayed_at
-    a_composition e x = rw (← is, e) (ap (λ (y : Composing). after_composition k y) x)
+  pub a_composition : {r : ℕ} {lists : Lists} → b ≡ 67 → placed r lists ≡ composition_at line k.lists
+      → after_composition k (placed r lists) ≡ replayed_at line k
+  unfolding replayed_at
+  a_composition e x = rw (← is, e) (ap (λ (p : Placed Lists). after_composition k p) x)
 
-    pub a_job : {w0 w1 w : List ℕ} → b ≡ 74
-        → jobbed d t a s (worked p w0 w1 w c) ≡ job_at line (composing 0 dst table args samples counts) (mem_of work0 work1 checkpoint)
-        → answer p (kept d t a s input w0 w1 w c) ≡ replayed_at line k
-    unfolding replayed_at
-    a_job e x = rw (← is, e) (ap (λ (y : Jobbed). after_job k y) x)
+  pub a_job : {r : ℕ} {lists : Lists} {memory : Memory} → b ≡ 74 → jobbed lists (placed r memory) ≡ job_at line k.lists k.memory
+      → after_job k (jobbed lists (placed r memory)) ≡ replayed_at line k
+  unfolding replayed_at
+  a_job e x = rw (← is, e) (ap (λ (j : Jobbed). after_job k j) x)
 
   pub a_card : {r : ℕ} → b ≡ 82 → r ≡ card_at line → answer r k ≡ replayed_at line k
   unfolding replayed_at

@@ -6,77 +6,39 @@ mod replay;
 
 use replay::judge;
 use std::io;
-use std::io::Read;
+use verdicts::{Tally, read_text};
 
-// All the lines at once, and the places where their answers end.
-type Text = [u8; 0x20_0000];
+// The letters of the kinds of lines; the last is that of the spoiled ones.
+const LETTERS: [u8; 7] = *b"FNBCJR!";
 
-type Places = [usize; 0x4000];
+// The kinds, in the order in which they are written: the name of each and its place among the letters. Lines of no kind have the place after them.
+const KINDS: [(&str, usize); 8] = [
+    ("names", 0),
+    ("narrowings", 1),
+    ("bytes", 2),
+    ("compositions", 3),
+    ("jobs", 4),
+    ("cards", 5),
+    ("lines of no kind", 7),
+    ("spoiled lines", 6),
+];
 
-// The kinds of lines, and how many there are; the last two are spoiled lines, and lines of no kind.
-const KINDS: usize = 8;
-
-fn room() -> Text {
+// Room for all the lines at once; where they are more, none is counted.
+fn room() -> [u8; 0x20_0000] {
     [0; 0x20_0000]
 }
 
-fn no_places() -> Places {
-    [0; 0x4000]
-}
-
-// Reads until the room is full or the input is at its end; how many bytes.
-fn read_full(input: &mut impl Read, room: &mut [u8]) -> io::Result<usize> {
-    let mut n = 0;
-    for _ in 0..room.len() {
-        let got = input.read(&mut room[n..])?;
-        if got == 0 {
-            return Ok(n);
-        }
-        n += got;
+fn main(rt: HostRuntime) -> io::Result<()> {
+    let mut room = room();
+    let mut tallies = [Tally::default(); KINDS.len()];
+    let text = read_text(&mut rt.stdin(), &mut room)?;
+    let first_wrong = judge(text, &LETTERS, &mut tallies);
+    for (name, kind) in KINDS {
+        let tally = tallies[kind];
+        println!(rt; "{name}: {tally}")?;
     }
-    Ok(n)
-}
-
-fn report(rt: HostRuntime, name: &str, right: u64, wrong: u64) -> io::Result<()> {
-    println!(rt; "{name}: {right} right, {wrong} wrong")
-}
-
-fn report_first(rt: HostRuntime, first_wrong: u64) -> io::Result<()> {
-    if first_wrong > 0 {
-        println!(rt; "the first wrong line: {first_wrong}")?;
+    if let Some(line) = first_wrong {
+        println!(rt; "the first wrong line: {line}")?;
     }
     Ok(())
-}
-
-// Reads the vectors and counts them; the number of the first wrong line, 0 where none is. Where there is no room for all of them, none is counted.
-fn count(
-    rt: HostRuntime,
-    text: &mut Text,
-    places: &mut Places,
-    right: &mut [u64; KINDS],
-    wrong: &mut [u64; KINDS],
-) -> io::Result<u64> {
-    let n = read_full(&mut rt.stdin(), text)?;
-    let read: &[u8] = text;
-    if n >= read.len() {
-        return Ok(0);
-    }
-    Ok(judge(&read[0..n], places, b"FNBCJR!", right, wrong))
-}
-
-fn main(rt: HostRuntime) -> io::Result<()> {
-    let mut text = room();
-    let mut places = no_places();
-    let mut right = [0u64; KINDS];
-    let mut wrong = [0u64; KINDS];
-    let first_wrong = count(rt, &mut text, &mut places, &mut right, &mut wrong)?;
-    report(rt, "names", right[0], wrong[0])?;
-    report(rt, "narrowings", right[1], wrong[1])?;
-    report(rt, "bytes", right[2], wrong[2])?;
-    report(rt, "compositions", right[3], wrong[3])?;
-    report(rt, "jobs", right[4], wrong[4])?;
-    report(rt, "cards", right[5], wrong[5])?;
-    report(rt, "lines of no kind", right[7], wrong[7])?;
-    report(rt, "spoiled lines", right[6], wrong[6])?;
-    report_first(rt, first_wrong)
 }

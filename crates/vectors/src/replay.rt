@@ -1,93 +1,58 @@
-// The lines of a text, one after the other: each is asked of the library, and the place is kept where its answer ends.
-ghost use Rattle.std.specs.Prelude.{◌≡◌};
-ghost use Rattle.lent.specs.Lent.{before, after};
-ghost use Rattle.verdicts.specs.Lines.{lines_of, counts_found, counts_left, lines_counted, answer, places_from};
-ghost use Rattle.vectors.specs.Replay.{kept_found, kept_left, nothing_kept, replayed_at};
+// The lines of a text, one after the other: each is asked of the library.
+ghost use Rattle.std.specs.Prelude.{◌≡◌, None, replicate};
+ghost use Rattle.verdicts.specs.Lines.{lines_of, counts, lines_counted, answer, places_from};
+ghost use Rattle.vector_rooms.specs.Rooms.{nothing_kept};
+ghost use Rattle.vectors.specs.Replay.{replayed_at};
 
 use vector_cases::{card, composition, name, narrowing};
 use vector_jobs::job;
 use vector_lines::NOWHERE;
-use vector_rooms::{AT_INPUT, Args, Checkpoint, Counts, Picture, Samples, Table};
-use verdicts::{asked, count_lines, first, line_end, put_place};
+use vector_rooms::Rooms;
+use verdicts::{Answering, Tally, first};
+
+// How many lines are replayed; those after them count as not answered.
+const MOST: usize = 0x4000;
 
 // The place after the last token of a line, or NOWHERE.
-fn replayed(
-    line: &[u8],
-    dst: &mut Picture,
-    table: &mut Table,
-    args: &mut Args,
-    samples: &mut Samples,
-    input: &mut Picture,
-    work0: &mut Picture,
-    work1: &mut Picture,
-    checkpoint: &mut Checkpoint,
-    counts: &mut Counts,
-) -> usize
-    ensures { answer result (kept_left dst table args samples input work0 work1 checkpoint counts)
-        ≡ replayed_at line.now (kept_found dst table args samples input work0 work1 checkpoint counts) }
+fn replayed(line: &[u8], rooms: &mut Rooms) -> usize
+    ensures { answer result rooms.new ≡ replayed_at line.now rooms.old }
 {
     match first(line) {
         b'F' => name(line),
-        b'N' => narrowing(line, false, input, &mut counts[AT_INPUT]),
-        b'B' => narrowing(line, true, input, &mut counts[AT_INPUT]),
-        b'C' => composition(line, dst, table, args, samples, counts),
-        b'J' => job(
-            line, dst, table, args, samples, work0, work1, checkpoint, counts,
-        ),
+        b'N' => narrowing(line, false, &mut rooms.input),
+        b'B' => narrowing(line, true, &mut rooms.input),
+        b'C' => composition(line, &mut rooms.lists),
+        b'J' => job(line, &mut rooms.lists, &mut rooms.memory),
         b'R' => card(line),
         _ => NOWHERE,
     }
 }
 
-// Replays every line and keeps where its answer ends.
-#[tactic(auto, using(verdicts::proofs::Splitting::none_replayed, verdicts::proofs::Splitting::all_replayed))]
-fn replay(text: &[u8], places: &mut [usize])
-    ensures { after places ≡ places_from replayed_at 0 (lines_of text.now) nothing_kept (before places) }
-{
-    let mut dst: Picture = [0; 256];
-    let mut table: Table = [0; 320];
-    let mut args: Args = [0; 128];
-    let mut samples: Samples = [0; 2048];
-    let mut input: Picture = [0; 256];
-    let mut work0: Picture = [0; 256];
-    let mut work1: Picture = [0; 256];
-    let mut checkpoint: Checkpoint = [0; 4];
-    let mut counts: Counts = [0; 8];
-    let mut i: usize = 0;
-    let mut from: usize = 0;
-    while from < text.len() {
-        let end = line_end(text, from);
-        let place = replayed(
-            asked(&text[from..end]),
-            &mut dst,
-            &mut table,
-            &mut args,
-            &mut samples,
-            &mut input,
-            &mut work0,
-            &mut work1,
-            &mut checkpoint,
-            &mut counts,
-        );
-        put_place(places, i, place);
-        i += 1;
-        from = end + 1;
+// Replays lines, each with the lists as the lines before it left them.
+#[derive(Drop)]
+struct Replay {
+    rooms: Rooms,
+}
+
+impl Answering for Replay {
+    type Kept = Rooms;
+
+    ghost kept = { λ s. s.rooms };
+
+    ghost answered = { replayed_at };
+
+    fn answer(&mut self, asked: &[u8]) -> usize {
+        replayed(asked, &mut self.rooms)
     }
 }
 
-// Replays the lines of a text and counts those that are right and those that are wrong, by their kinds' letters; the number of the first that is wrong, 0
-// where none is.
-#[tactic(auto, using(verdicts::proofs::Splitting::judged))]
-pub fn judge(
-    text: &[u8],
-    places: &mut [usize],
-    kinds: &[u8],
-    right: &mut [u64],
-    wrong: &mut [u64],
-) -> u64
-    ensures { let lines = lines_of text.now in counts_left right wrong result
-        ≡ lines_counted kinds.now (places_from replayed_at 0 lines nothing_kept (before places)) 0 lines (counts_found right wrong 0) }
+// Replays the lines of a text and counts those that are right and those that are wrong, by their kinds' letters; the number of the first that is wrong.
+pub fn judge(text: &[u8], kinds: &[u8], tallies: &mut [Tally]) -> Option<u64>
+    ensures { let lines = lines_of text.now in counts tallies.new result
+        ≡ lines_counted kinds.now (places_from replayed_at 0 lines nothing_kept (replicate MOST 0)) 0 lines (counts tallies.old None) }
 {
-    replay(text, places);
-    count_lines(text, places, kinds, right, wrong)
+    let mut replay = Replay {
+        rooms: Rooms::new(),
+    };
+    verdicts::judge(text, MOST, kinds, &mut replay, tallies)
 }

@@ -1,7 +1,7 @@
 -- The lines of a text, the kind of each, and how those that are answered right and wrong are counted; oracle/README.md has the form. Definitions only.
-use Rattle.std.specs.Prelude.{Bool, cond, not, ◌&&◌, ◌||◌, List, [], ◌∷◌, ℕ, suc, ◌+◌, eqb, length, get_or, set, drop}
-use Rattle.lent.specs.Lent.{Lent, before, after}
+use Rattle.std.specs.Prelude.{Bool, cond, not, ◌&&◌, ◌||◌, List, [], ◌∷◌, ℕ, suc, ◌+◌, eqb, length, get_or, set, drop, map, Option, Some, None}
 use Rattle.verdicts.specs.Tally.{tallied}
+use Rattle.verdicts.specs.declared.tally.Tally.{Tally}
 
 -- ---- lines
 
@@ -47,24 +47,22 @@ kind_of (k ∷ kinds) b = cond (eqb b k) 0 (suc (kind_of kinds b))
 abbrev pub right_at : List ℕ → ℕ → Bool
 right_at line place = cond (spoiled line) (not (eqb place (length (asked_of line)))) (eqb place (length (asked_of line)))
 
--- how many lines of each kind are right, how many wrong, and the number of the first that is wrong, 0 where none is
+-- how many lines of each kind are right, how many wrong, and the number of the first that is wrong, if one is
 pub record Counted : Type 0 where
   pub right : List ℕ
   pub wrong : List ℕ
-  pub first : ℕ
+  pub first : Option ℕ
 
-abbrev pub counted : List ℕ → List ℕ → ℕ → Counted
+abbrev pub counted : List ℕ → List ℕ → Option ℕ → Counted
 counted right wrong first = record { right = right; wrong = wrong; first = first }
 
--- the numbers that a function is lent, as it finds them and as it leaves them
-abbrev pub counts_found : (right wrong : Lent (List ℕ)) → ℕ → Counted
-counts_found right wrong = counted (before right) (before wrong)
+-- as the code keeps them, the two numbers of a kind side by side
+abbrev pub counts : List Tally → Option ℕ → Counted
+counts tallies first = counted (map (λ (t : Tally). t.right) tallies) (map (λ (t : Tally). t.wrong) tallies) first
 
-abbrev pub counts_left : (right wrong : Lent (List ℕ)) → ℕ → Counted
-counts_left right wrong = counted (after right) (after wrong)
-
-abbrev pub first_wrong : Bool → (number first : ℕ) → ℕ
-first_wrong isWrong number first = cond (isWrong && eqb first 0) number first
+abbrev pub first_wrong : Bool → ℕ → Option ℕ → Option ℕ
+first_wrong isWrong number None = cond isWrong (Some number) None
+first_wrong isWrong number (Some first) = Some first
 
 -- one line more, of a kind
 unfoldable pub with_line : (isRight isWrong : Bool) → (kind number : ℕ) → Counted → Counted

@@ -1,7 +1,12 @@
 // The verdict on a text of vectors: its lines, the kind of each, and how many of a kind are answered right and wrong.
 #![tactic(auto)]
 
-mod counting;
+mod judging;
 mod lines;
+mod reading;
+mod tally;
 
-pub use lines::{asked, count_lines, first, line_end, put_place};
+pub use judging::{Answering, judge};
+pub use lines::first;
+pub use reading::read_text;
+pub use tally::Tally;

@@ -1,26 +1,15 @@
--- One step of the search, and its end. Assumes nothing.
-use Rattle.std.proofs.Common.{◌≡◌, ◌+◌, refl, sym, ◌∙◌, arith}
+-- One step of the search. Assumes nothing.
+use Rattle.std.proofs.Common.{◌≡◌, ◌+◌, ◌∙◌, arith}
 use Rattle.names.specs.Names.{key_of}
 use Rattle.names.specs.Packed.{letters, lengths}
-use Rattle.names.proofs.EndToEnd.{names_packed, names_count}
-use Rattle.names.proofs.Packing.{search_from, ended}
-use Rattle.names.proofs.Finding.{fits_after, room, reads_within, this_one, not_this, not_its_length}
+use Rattle.names.proofs.Packing.{search_from}
+use Rattle.names.proofs.Finding.{fits_after, room, reads_within, not_this, not_its_length}
 use Rattle.names.proofs.find.Goals as goal
-
-pub loop-k-init : goal.loop-k-init
-loop-k-init c = record { fits = omega (arith, names_packed.2); as_whole = refl }
 
 pub reads_at-requires : goal.reads_at-requires
 reads_at-requires c =
     reads_within c.loop-k.k c.length_of-m.result c.loop-k.at (omega arith) c.length_of-m.ensures c.loop-k.invariant.fits
     (key_of c.args.s.now) c.key_length-n.result c.key_length-n.ensures (omega arith)
-
-pub returns-then-reads_at : goal.returns-then-reads_at
-returns-then-reads_at c =
-    sym
-    (c.loop-k.invariant.as_whole
-    ∙ this_one c.loop-k.k c.length_of-m.result c.loop-k.at (omega arith) c.length_of-m.ensures c.loop-k.invariant.fits
-    (key_of c.args.s.now) c.key_length-n.result c.key_length-n.ensures (omega arith) (sym c.reads_at.ensures ∙ c.if-reads_at.true))
 
 pub overflow_add-at : goal.overflow_add-at
 overflow_add-at c = record {
@@ -38,7 +27,3 @@ loop-k-preserved c =
       fits = fits_after c.loop-k.k c.length_of-m.result c.loop-k.at (omega arith) c.length_of-m.ensures c.loop-k.invariant.fits;
       as_whole = c.loop-k.invariant.as_whole ∙ s;
     }
-
-pub returns : goal.returns
-returns c =
-    sym (c.loop-k.invariant.as_whole ∙ ended _ letters lengths c.loop-k.at c.loop-k.k (omega (arith, names_count)))

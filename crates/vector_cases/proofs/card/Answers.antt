@@ -1,6 +1,6 @@
--- What `card` returns is what its contract says, by what its callees ensure. Assumes nothing.
+-- The text is read over none.
 use Rattle.vector_cases.proofs.Laws.{text_read}
 use Rattle.vector_cases.proofs.card.Goals as goal
 
 pub returns : goal.returns
-returns c = text_read _ _ c.bytes-at.ensures c.first_bytes.ensures c.card_lent.ensures
+returns c = let read = rw c.new-text.ensures at c.read-at.ensures in text_read _ read c.as_slice.ensures c.card_lent.ensures

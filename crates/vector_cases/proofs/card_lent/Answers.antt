@@ -1,4 +1,4 @@
--- What `card_lent` returns is what its contract says, by what its callees ensure. Assumes nothing.
+-- Both lists are lent with the lengths that are read.
 use Rattle.vector_cases.proofs.Laws.{lists_lent}
 use Rattle.vector_cases.proofs.card_lent.Goals as goal
 

@@ -1,8 +1,8 @@
--- What `played` returns and leaves is what its contract says, by what its callees ensure. Assumes nothing.
+-- What is read and called is what the definition reads and calls, one after the other.
 use Rattle.vector_jobs.proofs.Calls.{played_read}
 use Rattle.vector_jobs.proofs.played.Goals as goal
 
 pub returns : goal.returns
 returns c =
-    played_read _ _ _ c.ranges.layers c.memory-after_memory.ensures c.longs-after_numbers.ensures c.first_longs.ensures
-    c.called-after_calls.ensures c.all_left.ensures
+    let calls = rw c.new-calls.ensures at c.read-after_numbers.ensures in
+    played_read _ _ _ c.read-after_memory.ensures calls c.as_slice.ensures c.called-after_calls.ensures c.left.ensures

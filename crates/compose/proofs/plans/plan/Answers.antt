@@ -10,10 +10,10 @@ unfolding plan_of
 returns c =
     planned c.args.l c.args.dw c.args.dh c.requires.0 _ c.requires.1 c.requires.2
     (rw (
-      c.placement-corner.ensures,
-      c.displaces-displace.ensures,
-      c.reads_through-map.ensures,
-      c.params-params.ensures,
+      c.placement.ensures,
+      c.displaces.ensures,
+      c.reads_through.ensures,
+      c.params.ensures,
       back {z = c.args.l.right} (omega (arith, c.requires.0.offset_right)),
       back {z = c.args.l.down} (omega (arith, c.requires.0.offset_down)),
     ))

@@ -1,5 +1,5 @@
--- The first j pixels of out are composed, and the rest is as it was; the buffer has kept its length. The measure is the pixels left.
-use Rattle.std.proofs.Common.{◌-◌, ◌≡◌, ◌≤◌, length}
+-- The first j pixels of out are composed, and the rest is as it was. The measure is the pixels left.
+use Rattle.std.proofs.Common.{◌-◌, ◌≡◌, ◌≤◌}
 use Rattle.pictures.specs.Widen.{rgba_at}
 use Rattle.pictures.specs.Steps.{filled}
 use Rattle.compose.specs.Plans.{pixel_on}
@@ -9,8 +9,6 @@ abbrev pub invariant-loop-j : goal.invariant-loop-j
 invariant-loop-j l = record {
   within : l.j ≤ l.total;
   done : l.out ≡ filled (pixel_on l.p l.source (rgba_at l.dst l.channels)) l.j l.fn.out;
-  long : length l.out ≡ length l.fn.out;
-  room : length l.own ≡ 512;
 }
 
 abbrev pub decreases-loop-j : goal.decreases-loop-j

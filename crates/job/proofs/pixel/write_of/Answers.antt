@@ -10,8 +10,8 @@ returns-then-k-eq0 c =
     let few : a.c < 4 = omega arith in
     rw (eq-eqb _ _ c.if-k-eq0.true) at (sym (word_of a.k a.j a.buf.now a.x (a.position + 1) a.c few))
 
-pub returns : goal.returns
-returns c =
+pub returns-else-k-eq0 : goal.returns-else-k-eq0
+returns-else-k-eq0 c =
     let a = c.args in
     let few : a.c < 4 = omega arith in
     rw (ne_eqb _ _ c.if-k-eq0.false) at (sym (word_of a.k a.j a.buf.now a.x (a.position + 1) a.c few))

@@ -2,5 +2,5 @@
 use Rattle.operators.proofs.Places.{past_the_last}
 use Rattle.operators.proofs.CompositeOp.at.Goals as goal
 
-pub returns : goal.returns
-returns c = past_the_last c.args.n c.if-n-lt70.false
+pub returns-else-n-lt70 : goal.returns-else-n-lt70
+returns-else-n-lt70 c = past_the_last c.args.n c.if-n-lt70.false

@@ -5,7 +5,7 @@ use Rattle.operators.specs.Numbers.{op_of}
 use Rattle.operators.proofs.Numbers.{found}
 use Rattle.operators.proofs.CompositeOp.from_number.Goals as goal
 
-pub returns-in-At : goal.returns-in-At
-returns-in-At c =
-    c.named.ensures ∙ found _ c.lookup.result (rw (to_z-of_z c.ranges.n) at c.lookup.ensures) c.in-At.is
+pub returns-in-Some : goal.returns-in-Some
+returns-in-Some c =
+    c.carried.ensures ∙ found _ c.lookup.result (rw (to_z-of_z c.ranges.n) at c.lookup.ensures) c.in-Some.is
     ∙ sym (ap op_of (from_zero c.ranges.n c.if-n-lt0.false))

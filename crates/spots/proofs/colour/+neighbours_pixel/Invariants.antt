@@ -3,7 +3,10 @@ use Rattle.std.proofs.Common.{◌+◌, ◌*◌}
 use Rattle.spots.proofs.colour.+neighbours_pixel.Given as goal
 
 abbrev pub decreases-neighbours : goal.decreases-neighbours
-decreases-neighbours l = 2 * l.k + 1
+decreases-neighbours l = 3 * l.k + 2
+
+abbrev pub decreases-neighbour : goal.decreases-neighbour
+decreases-neighbour l = 3 * l.k + 1
 
 abbrev pub decreases-pixel : goal.decreases-pixel
-decreases-pixel l = 2 * l.k
+decreases-pixel l = 3 * l.k

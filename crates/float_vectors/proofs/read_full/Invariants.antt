@@ -1,6 +1,0 @@
--- What has been read lies within the room.
-use Rattle.std.proofs.Common.{◌≤◌, length}
-use Rattle.float_vectors.proofs.read_full.Given as goal
-
-abbrev pub invariant-loop : goal.invariant-loop
-invariant-loop g l = l.n ≤ length l.room

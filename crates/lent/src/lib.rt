@@ -1,2 +1,0 @@
-// What a contract says of a lent parameter: specs/Lent. This crate has no code.
-#![tactic(auto)]
