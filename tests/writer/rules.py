@@ -78,7 +78,7 @@ GIVEN = {
 }
 # How a body reads a list of the memory, an input, the extent and the count. The functions of other crates that write do so into the last argument; READS_LAST reads it.
 LIST = r"(?:work0|work1|checkpoint) (?:\[|\. len \( \)) "
-READS = re.compile(rf"memory \. (?={LIST})|(?<=memory \. ){LIST}|extent \. |inputs \. |(?<=extent \. )inputs |(?<=inputs \. )\w+ |(?<=\* )uses ")
+READS = re.compile(rf"memory \. (?={LIST})|(?<=memory \. ){LIST}|extent \. |inputs \. |(?<=extent \. )inputs |(?<=inputs \. )(?:(?:shape|count) |\w+ (?=, (?!\))))|(?<=\* )uses ")
 READS_LAST = "check"
 # Statements that have them in another form, each whole: where the inputs of a call come together; where its lists do, and are handed on; and where what is
 # read of them is chosen.

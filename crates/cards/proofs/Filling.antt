@@ -65,7 +65,7 @@ module _ (form s : List ℕ) (row : List ℤ) (args : List ℕ) (k i c : ℕ) (h
   here : read_form (drop i form) s ≡ and_then (read_one c s) (read_form (drop (i + 1) form))
   here = rw (add-one, drop-cons form i 0 h, d)
 
-  counted : (hole : ℕ) → hole ≡ cond (is_hole c) 1 0 → holes (drop i form) ≡ hole + holes (drop (i + 1) form)
+  pub counted : (hole : ℕ) → hole ≡ cond (is_hole c) 1 0 → holes (drop i form) ≡ hole + holes (drop (i + 1) form)
   counted hole q = rw (add-one, drop-cons form i 0 h, q, d) (one (is_hole (get_or form i 0)) (holes (drop (suc i) form)))
     where
       one : (b : Bool) (m : ℕ) → cond b (suc m) m ≡ cond b 1 0 + m

@@ -89,11 +89,11 @@ pub value_name : (c : ℕ) (s : List ℕ) → c ≡ name_hole → cell_of c s �
 unfolding cell_of
 value_name c s e = rw (eq-eqb c name_hole e)
 
-value_number : (c : ℕ) (s : List ℕ) → (c ≡ name_hole → ⊥) → cell_of c s ≡ numbered (decimal_of s)
+pub value_number : (c : ℕ) (s : List ℕ) → (c ≡ name_hole → ⊥) → cell_of c s ≡ numbered (decimal_of s)
 unfolding cell_of
 value_number c s e = rw (ne_eqb c name_hole e)
 
-number_column : (r : Option ℤ) → column (numbered r) ≡ r
+pub number_column : (r : Option ℤ) → column (numbered r) ≡ r
 number_column (Some x) = refl
 number_column None = refl
 

@@ -249,7 +249,7 @@ module _ {a b k r left : ℕ} (s : Reducing a b k r left) where
   room : (i : ℕ) → i ≤ 32 → r * 2 ^ i < 2 ^ 64
   room i h = lt_of_lt_of_le (mul-lt-mul_of_pos_right s.few (pow_pos i)) (le_trans (mul-le-mul {n₁ = 2 ^ 24} {n₂ = 2 ^ 24} (lit≤ tt) (pow_mono h)) (lit≤ tt))
 
-  step : 32 ≤ left → r * 2 ^ 32 % 2 ^ 64 % b * 2 ^ (left - 32) % b ≡ r * 2 ^ left % b
+  pub step : 32 ≤ left → r * 2 ^ 32 % 2 ^ 64 % b * 2 ^ (left - 32) % b ≡ r * 2 ^ left % b
   step h =
       let i : 32 + (left - 32) ≡ left = omega arith in
       ap (λ (z : ℕ). z % b * 2 ^ (left - 32) % b) (mod-eq_of_lt (room 32 (omega arith)))

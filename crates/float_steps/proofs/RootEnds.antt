@@ -1,7 +1,8 @@
 -- `sqrt_of` where no root is made: of a zero, of plus infinity, of a NaN and of what is below zero; and the words of the values above zero. Assumes nothing.
-use Rattle.std.proofs.Common.{◌≡◌, ℕ, zero, suc, ◌+◌, ◌*◌, ◌/◌, ◌%◌, ◌^◌, ◌<◌, ◌≤◌, Bool, true, false, cond, T, eqb, leb, ℤ, sym, refl, ap, ◌∙◌, subst, inl, inr, true≢false, le_trans, le_of_eq, mod-eq_of_lt, eq-zero-or-pos, mul-pos, lt_of_not-le, zero-mul, mul-one, arith, le→leb, ltb-false, ltb-true, eq-eqb, ne_eqb}
+use Rattle.std.proofs.Common.{◌≡◌, ℕ, zero, suc, ◌+◌, ◌*◌, ◌/◌, ◌%◌, ◌^◌, ◌<◌, ◌≤◌, Bool, true, false, ◌&&◌, ◌||◌, cond, T, eqb, leb, ℤ, sym, refl, ap, ◌∙◌, subst, inl, inr, true≢false, le_trans, le_of_eq, mod-eq_of_lt, eq-zero-or-pos, mul-pos, lt_of_not-le, zero-mul, mul-one, arith, le→leb, ltb-false, ltb-true, eq-eqb, ne_eqb}
+use mathlib.Core.Bool.{beq, or-true}
 use lib.Arith.{lt_of_le-ne}
-use lib.Ieee.{Float, nan, inf, fin, binary32, up, down, odd, of_fields, of_bits, to_bits, fits, lt}
+use lib.Ieee.{Float, nan, inf, fin, binary32, up, down, odd, of_fields, of_bits, to_bits, fits, lt, eq}
 use lib.Ieee.Fits.{up_pos}
 use lib.Ieee.Bits.{of_bits-to_bits, is_true}
 use Rattle.float_steps.specs.Root.{nearest_root, sqrt_of}
@@ -30,6 +31,12 @@ first_zero (suc n) u U h = absurd (none (suc n * u) (mul-pos (lit' n) U) (le_tra
 own : (s : Bool) (m : ℕ) (e : ℤ) → m ≡ 0 → fin s m e ≡ sqrt_of (fin s m e)
 unfolding sqrt_of
 own s m e z = sym (ap (λ (b : Bool). cond b (fin s m e) (cond s nan (nearest_root (m * up e * 2 ^ 298 / down e)))) (eq-eqb m 0 z))
+
+is_nought : (s : Bool) (m : ℕ) (e : ℤ) → m ≡ 0 → eq (fin s m e) nought ≡ true
+unfolding eq of_bits
+is_nought s m e z =
+    let a : m * up e * 1 ≡ 0 = mul-one (m * up e) ∙ ap (λ (y : ℕ). y * up e) z ∙ zero-mul (up e) in
+    ap (λ (y : ℕ). eqb y (0 * down e) && (beq s false || eqb y 0)) a ∙ ap (λ (y : ℕ). eqb 0 y && (beq s false || true)) (zero-mul (down e)) ∙ or-true (beq s false)
 
 pub sqrt_below : (v : Float) → lt v nought ≡ true → nan_made ≡ sqrt_of v
 unfolding lt sqrt_of of_bits

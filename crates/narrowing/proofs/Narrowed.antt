@@ -23,7 +23,7 @@ length_pixel k w (inl e) = rw e
 length_pixel k w (inr (inl e)) = rw e
 length_pixel k w (inr (inr e)) = rw e
 
-length_narrowed : (k : ℕ) (input : List ℕ) → Channels k → length (narrowed_of k input) ≡ length input / 4 * k
+pub length_narrowed : (k : ℕ) (input : List ℕ) → Channels k → length (narrowed_of k input) ≡ length input / 4 * k
 unfolding narrowed_of
 length_narrowed k [] h = sym (zero-mul k)
 length_narrowed k (r ∷ []) h = sym (zero-mul k)

@@ -98,7 +98,7 @@ fn narrow_into<S: Sample>(wanted: i64, input: &[u32], output: &mut [S]) -> Resul
 pub fn narrow(wanted: i64, input: &[u32], output: &mut [u32]) -> Result<(), Fault>
     ensures { narrowed (number_in result) output.new ≡ narrow_of wanted input.now output.old }
 {
-    narrow_into(wanted, input, output)
+    narrow_into::<u32>(wanted, input, output)
 }
 
 // The same as bytes.
@@ -106,5 +106,5 @@ pub fn narrow(wanted: i64, input: &[u32], output: &mut [u32]) -> Result<(), Faul
 pub fn narrow_bytes(wanted: i64, input: &[u32], output: &mut [u8]) -> Result<(), Fault>
     ensures { narrowed (number_in result) output.new ≡ narrow_bytes_of wanted input.now output.old }
 {
-    narrow_into(wanted, input, output)
+    narrow_into::<u8>(wanted, input, output)
 }

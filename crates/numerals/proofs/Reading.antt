@@ -1,15 +1,19 @@
 -- One step of reading digits, at place i of the text with the number n so far; and what each test of a number's reader says. Assumes nothing.
-use mathlib.Core.Path.{◌≡◌, refl}
+use mathlib.Core.Path.{◌≡◌, refl, ap, ◌∙◌}
 use mathlib.Core.Bool.{cond, and-false}
 use mathlib.Core.List.{List, [], ◌∷◌}
-use Prim.Native.Nat.{ℕ, ◌+◌, ◌*◌, ◌-◌, ◌^◌, ◌<◌, ◌≤◌}
+use Prim.Native.Nat.{ℕ, zero, suc, ◌+◌, ◌*◌, ◌-◌, ◌^◌, ◌<◌, ◌≤◌}
 use native.Mathlib.Nat.{mul-le-mul_left, pow-suc, pow-le-pow_right}
 use native.Mathlib.Numerals.{add-one}
 use native.Mathlib.Omega.{arith}
 use lib.Dec.{leb, ltb}
+use lib.IntN.{ℤ, pos, negsuc, ◌-ℤ◌}
 use lib.ListN.{length, get_or, take, drop}
 use lib.Seq.{drop-cons, take_all}
 use borrow.Author.Tests.{ltb-true, lt-ltb, le-leb, lt-leb, eq-eqb, ne_eqb}
+use mir.Facts.{to_z_pos}
+use mir.Syntax.{w64}
+use mir.Val.{to_z}
 use Rattle.numerals.proofs.Bools.{split}
 use Rattle.numerals.specs.Digits.{digit_of, value_from, are_digits, number_in}
 use Rattle.numerals.specs.Numbers.{unsigned_of, decimal_of, plus, minus}
@@ -76,3 +80,15 @@ pub from_zero : (s : List ℕ) → (1 ≤ length s → get_or s 0 0 ≡ 45 → �
 unfolding decimal_of unsigned_of
 from_zero [] e = refl
 from_zero (b ∷ s) e = rw (ne_eqb b 45 (e (omega arith)))
+
+less : (n : ℕ) → pos 0 -ℤ pos (suc n) ≡ negsuc n
+less n =
+    let q : suc n - 1 ≡ n = omega arith in
+    rw (lt-ltb 0 (suc n) (omega arith)) (ap negsuc q)
+
+-- what is below 0 by a number of 63 bits
+pub below : (n : ℕ) → n < 0x8000_0000_0000_0000 → ((n ≡ 0) → ⊥) → pos 0 -ℤ to_z w64 n ≡ negsuc (n - 1)
+below zero h g = absurd (g refl)
+below (suc n) h g =
+    let q : n ≡ suc n - 1 = omega arith in
+    ap (λ (z : ℤ). pos 0 -ℤ z) (to_z_pos w64 h) ∙ less n ∙ ap negsuc q

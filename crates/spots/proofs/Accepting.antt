@@ -33,7 +33,7 @@ module _ (i : Inputs) (x y : ℤ) (none : (spot_fault i x y).number ≡ 0) where
   unfolding spot_fault
   parts = neither (job_fault i) (bad_spot i x y) _ refl none
 
-  fit : (job_fault i).number ≡ 0
+  pub fit : (job_fault i).number ≡ 0
   fit = parts.0
 
   spot : (off i.shape.width x ≡ false) × (off i.shape.height y ≡ false) × (ltb most_maps (maps_of i.table i.args (layer_count i)) ≡ false)

@@ -10,7 +10,7 @@ use Rattle.layers.specs.Inputs.{Inputs, Verdict, verdict, job_fault}
 use Rattle.pictures.specs.Shapes.{nat_of}
 use Rattle.pictures.specs.Widen.{words_of}
 use Rattle.pictures.specs.declared.Words.{Words}
-use Rattle.spots.specs.declared.Spot.{Spot}
+use Rattle.spots.specs.declared.SpotColour.{SpotColour}
 use Rattle.spots.specs.Spots.{colour_of, reads_of, maps_of}
 
 -- the most map layers of a job whose spots are worked out
@@ -60,6 +60,6 @@ unfoldable pub spot_of : Inputs → (x y : ℤ) → Answer
 spot_of i x y = cond (eqb (spot_fault i x y).number NONE) (acceptance i x y) (refusal (spot_fault i x y))
 
 -- the same of what the code answers
-abbrev pub answer_of : Result Spot Refusal → Answer
+abbrev pub answer_of : Result SpotColour Refusal → Answer
 answer_of (Ok s) = answer NONE 0 s.colour s.reads
 answer_of (Err r) = refusal (verdict (number_of r.fault) r.layer)

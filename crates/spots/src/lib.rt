@@ -2,7 +2,7 @@
 // needs, and one that takes all from its source asks for nothing. The contracts cite specs/Spots and Answers, and beneath the call Steps.
 #![tactic(auto)]
 
-pub mod call; // call.rt: the call
+pub mod spot; // spot.rt: the call
 mod checks; // checks.rt: the faults of a call
 mod colour; // colour.rt: the recursion on the layers, and the one function that reads the destination
 mod beneath; // beneath.rt: what a layer needs of the picture beneath
@@ -22,7 +22,7 @@ enum Needs {
 
 // A spot's colour, and how often a pixel of the destination was read for it.
 #[derive(Clone, Copy)]
-pub struct Spot {
+pub struct SpotColour {
     pub colour: Words,
     pub reads: u64,
 }

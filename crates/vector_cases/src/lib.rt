@@ -13,11 +13,9 @@ ghost use Rattle.vector_cases.specs.Cases.{composed_by, composition_at};
 ghost use Rattle.vector_cases.specs.Cases.{answers_at, answers_of, read_at, lent_at, card_at};
 
 use vector_lines::{NOWHERE, Number, expect, if_same, list, number_up_to};
-use vector_rooms::{Asked, Lists, Picture, Room, shape_of};
+use vector_rooms::{Asked, Lists, OUT, Picture, Room, shape_of};
 
-// The longest output, and the most numbers and words that a card is lent.
-const OUT: usize = 256;
-
+// The most numbers and words that a card is lent.
 const TABLE: usize = 320;
 
 const ARGS: usize = 128;

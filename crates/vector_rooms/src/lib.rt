@@ -19,6 +19,9 @@ pub struct Room<T, const N: usize> {
 // Room for the words of a picture, also of one that is narrowed.
 pub type Picture = Room<u32, 256>;
 
+// The longest output.
+pub const OUT: usize = 256;
+
 impl<T: Number, const N: usize> Room<T, N> {
     // A list that has no numbers, in a room full of `fill`.
     pub fn new(fill: T) -> Self

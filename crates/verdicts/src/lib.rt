@@ -7,6 +7,6 @@ mod reading;
 mod tally;
 
 pub use judging::{Answering, judge};
-pub use lines::first;
+pub use lines::{asked, first};
 pub use reading::read_text;
 pub use tally::Tally;

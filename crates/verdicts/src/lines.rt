@@ -65,7 +65,7 @@ pub(crate) fn is_asked(line: &[u8]) -> bool
 }
 
 // What a line asks.
-pub(crate) fn asked(line: &[u8]) -> &[u8]
+pub fn asked(line: &[u8]) -> &[u8]
     ensures { result.now ≡ asked_of line.now }
 {
     line.strip_prefix(b"!").unwrap_or(line)

@@ -1,5 +1,8 @@
 -- The writes of the call are due, and what it answers is what they leave.
-use Rattle.std.proofs.Common.{refl, arith}
+use Rattle.std.proofs.Common.{◌≡◌, refl, arith}
+use Rattle.layers.specs.Inputs.{inputs_in}
+use Rattle.job.specs.Memory.{mem_in}
+use Rattle.job.specs.Call.{made_of}
 use Rattle.job.proofs.Checked.{bounded, call_inputs, call_midway, call_accepted}
 use Rattle.job.proofs.Parts.{ran_lengths}
 use Rattle.job.proofs.call.accepted.Goals as goal
@@ -16,13 +19,18 @@ overflow_sub-left c = let v = call_midway _ _ _ c.requires 0 in omega (arith, v.
 pub overflow_mul-left : goal.overflow_mul-left
 overflow_mul-left c = omega (arith, (bounded _ (call_inputs _ _ _ c.requires)).end, c.end_of-end.ensures)
 
+-- no more writes than are left are due
 pub writes-requires : goal.writes-requires
-writes-requires c = let due = rw c.end_of-end.ensures at c.min-due.ensures in (refl, rw due (call_midway _ _ _ c.requires c.args.allowance))
+writes-requires c =
+    let m = mem_in c.args.memory.now in
+    let due : c.min-due.result ≡ made_of (inputs_in c.args.inputs) c.min-due.result m = omega (arith, c.min-due.ensures, c.end_of-end.ensures) in
+    (refl, rw due (call_midway _ _ m c.requires c.min-due.result))
 
 pub bounds-memory-0-2 : goal.bounds-memory-0-2
 bounds-memory-0-2 c =
-    let due = rw c.end_of-end.ensures at c.min-due.ensures in
-    let v = call_midway _ _ _ c.requires c.args.allowance in
+    let m = mem_in c.args.memory.now in
+    let due : c.min-due.result ≡ made_of (inputs_in c.args.inputs) c.min-due.result m = omega (arith, c.min-due.ensures, c.end_of-end.ensures) in
+    let v = call_midway _ _ m c.requires c.min-due.result in
     omega (arith, v.sized.checkpoint, (ran_lengths (rw due at c.writes.ensures.0) v).2)
 
 pub returns : goal.returns

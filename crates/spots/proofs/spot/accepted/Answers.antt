@@ -4,7 +4,7 @@ use Rattle.std.proofs.lemmas.Int.{to_z-of_z}
 use Rattle.pictures.specs.Shapes.{nat_of}
 use Rattle.layers.specs.Inputs.{inputs_in}
 use Rattle.spots.proofs.Accepting.{spot_fits, asked}
-use Rattle.spots.proofs.call.accepted.Goals as goal
+use Rattle.spots.proofs.spot.accepted.Goals as goal
 
 pub overflow_mul-j : goal.overflow_mul-j
 overflow_mul-j c =
